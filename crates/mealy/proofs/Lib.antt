@@ -1,0 +1,14 @@
+-- The laws.
+pub mod Edges
+pub mod Levels
+pub mod Runs
+pub mod Windows
+pub mod Sums
+pub mod Decisions
+pub mod Settling
+pub mod LeastWindows
+pub mod Walks
+pub mod LoopedPairs
+pub mod Answers
+pub mod Plain
+pub mod Examples

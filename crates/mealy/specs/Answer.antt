@@ -1,0 +1,48 @@
+-- What a decoder answers for the letters of one window.
+use Prim.Native.Nat.{ℕ, _<_}
+use mathlib.Core.Path.{_≡_}
+use mathlib.Core.Logic.{_≢_}
+use mathlib.Core.List.{List}
+use lib.ListN.{length, getD}
+use Rattle.mealy.specs.Machine.{outs, Letters}
+use Rattle.mealy.specs.Setting.{Setting}
+
+-- Document 01's term "fits" ("Decoding", first sentence): some run with the outputs w has the letter x at place b.
+pub record Fits (S : Setting) (w : List ℕ) (b x : ℕ) : Type 0 where
+  pub s : ℕ
+  pub xs : List ℕ
+  pub start : S .Start s
+  pub letters : Letters (S .M .inputs) xs
+  pub outputs : outs (S .M) s xs ≡ w
+  pub inside : b < length xs
+  pub letter : getD xs b 0 ≡ x
+
+-- The three answers ("Decoding", second sentence), and each one's byte (third sentence).
+pub data Answer : Type 0 where
+  letter : ℕ → Answer
+  none : Answer
+  several : Answer
+
+abbrev pub byteOf : Answer → ℕ
+byteOf (letter x) = x
+byteOf none = 254
+byteOf several = 255
+
+-- x fits, and nothing else does
+pub record Alone (S : Setting) (w : List ℕ) (b x : ℕ) : Type 0 where
+  pub fits : Fits S w b x
+  pub alone : (y : ℕ) → Fits S w b y → y ≡ x
+
+-- two different letters fit
+pub record Two (S : Setting) (w : List ℕ) (b : ℕ) : Type 0 where
+  pub x : ℕ
+  pub y : ℕ
+  pub fits₁ : Fits S w b x
+  pub fits₂ : Fits S w b y
+  pub differ : x ≢ y
+
+-- Demand 2, second sentence: the letter that alone fits; none where no run gives the outputs; several otherwise.
+abbrev pub Answers : Setting → List ℕ → ℕ → Answer → Type 0
+Answers S w b (letter x) = Alone S w b x
+Answers S w b none = (x : ℕ) → Fits S w b x → ⊥
+Answers S w b several = Two S w b

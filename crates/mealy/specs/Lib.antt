@@ -1,0 +1,8 @@
+-- What the contracts cite: machines, runs, windows, the decoder's answer, the product machine, looped pairs.
+pub mod Machine
+pub mod Setting
+pub mod Window
+pub mod Order
+pub mod Answer
+pub mod Product
+pub mod LoopedPair

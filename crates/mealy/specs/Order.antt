@@ -1,0 +1,26 @@
+-- The order of windows, and the least window that works.
+use Prim.Native.Nat.{ℕ, _+_, _≤_}
+use mathlib.Core.Path.{_≡_}
+use Rattle.mealy.specs.Setting.{Setting}
+use Rattle.mealy.specs.Window.{Works}
+
+-- A relation of windows: `R b a b′ a′` says that the window b a comes no later than b′ a′.
+abbrev pub Relation : Type 1
+Relation = ℕ → ℕ → ℕ → ℕ → Type 0
+
+-- An order in which a larger side is never better.
+pub record Order (R : Relation) : Type 0 where
+  pub larger : (b a b′ a′ : ℕ) → b ≤ b′ → a ≤ a′ → R b a b′ a′
+  pub transitive : (b a b′ a′ b″ a″ : ℕ) → R b a b′ a′ → R b′ a′ b″ a″ → R b a b″ a″
+  pub antisymmetric : (b a b′ a′ : ℕ) → R b a b′ a′ → R b′ a′ b a → (b ≡ b′) × (a ≡ a′)
+
+-- The order of demand 3's last sentence ("Coders and runs" says it of the reported window): fewer letters, and of equally many
+-- less lookahead.
+pub record FewestLetters (b a b′ a′ : ℕ) : Type 0 where
+  pub fewer : b + 1 + a ≤ b′ + 1 + a′
+  pub tie : b + 1 + a ≡ b′ + 1 + a′ → a ≤ a′
+
+-- The window works, and comes no later than any other that works, whatever its sides.
+pub record Least (R : Relation) (S : Setting) (b a : ℕ) : Type 0 where
+  pub works : Works S b a
+  pub least : (b′ a′ : ℕ) → Works S b′ a′ → R b a b′ a′

@@ -1,0 +1,22 @@
+-- A machine with the states in which a run may start and the pairs of letters that a window has to tell apart.
+use Prim.Native.Nat.{ℕ, _<_}
+use mathlib.Core.Logic.{_≢_}
+use Rattle.mealy.specs.Machine.{Machine}
+
+-- It holds no proof, so that a contract can cite it.
+pub record Setting : Type 1 where
+  pub M : Machine
+  pub Start : ℕ → Type 0
+  pub Conflict : ℕ → ℕ → Type 0
+
+-- What laws ask of a setting: an entry leads from a start state to a start state; start states are states.
+abbrev pub Closed : Setting → Type 0
+Closed S = (s i : ℕ) → S .Start s → i < S .M .inputs → S .Start (S .M .next s i)
+
+abbrev pub Bounded : Setting → Type 0
+Bounded S = (s : ℕ) → S .Start s → s < S .M .states
+
+-- The setting of document 01: a run may start in any state ("Coders and runs", fourth sentence), and different input letters
+-- are to be told apart (the sentence that defines "works").
+abbrev pub anyState : Machine → Setting
+anyState M = record { M = M; Start = λ s. s < M .states; Conflict = λ i j. i ≢ j }

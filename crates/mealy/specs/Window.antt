@@ -1,0 +1,30 @@
+-- Windows that work.
+use Prim.Native.Nat.{ℕ, _+_, _<_}
+use mathlib.Core.Path.{_≡_}
+use mathlib.Core.List.{List}
+use lib.ListN.{length, getD}
+use Rattle.mealy.specs.Machine.{Machine, outs, Letters}
+use Rattle.mealy.specs.Setting.{Setting}
+
+-- Two runs of n letters, from s on xs and from t on ys, with equal outputs at every place.
+pub record EqualOutputs (M : Machine) (n s t : ℕ) (xs ys : List ℕ) : Type 0 where
+  pub letters₁ : Letters (M .inputs) xs
+  pub letters₂ : Letters (M .inputs) ys
+  pub length₁ : length xs ≡ n
+  pub length₂ : length ys ≡ n
+  pub outputs : outs M s xs ≡ outs M t ys
+
+-- Document 01's term "works" ("Coders and runs", the paragraph on windows): the window has b letters before the present one
+-- and a after it, and no two runs of b + 1 + a letters have equal outputs throughout and conflicting letters at place b,
+-- counted from 0.
+abbrev pub Works : Setting → ℕ → ℕ → Type 0
+Works S b a =
+    (s t : ℕ) (xs ys : List ℕ) → S .Start s → S .Start t → EqualOutputs (S .M) (b + 1 + a) s t xs ys →
+    S .Conflict (getD xs b 0) (getD ys b 0) → ⊥
+
+-- The same for document 01's setting, said with no setting: where the outputs are equal, so is the letter at place b.
+-- `works↔same-letter` of proofs/Plain.antt shows that the two agree.
+abbrev pub SameLetter : Machine → ℕ → ℕ → Type 0
+SameLetter M b a =
+    (s t : ℕ) (xs ys : List ℕ) → s < M .states → t < M .states → Letters (M .inputs) xs → Letters (M .inputs) ys →
+    length xs ≡ b + 1 + a → length ys ≡ b + 1 + a → outs M s xs ≡ outs M t ys → getD xs b 0 ≡ getD ys b 0

@@ -1,0 +1,1 @@
+// The theory of line coders as Mealy machines: definitions in specs/, laws in proofs/, no code.
