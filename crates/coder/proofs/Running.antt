@@ -1,0 +1,128 @@
+-- The run letter by letter, and what a run that is not refused may rely on.
+use mathlib.Core.Path.{_≡_, refl, sym, ap, ap₂, _∙_}
+use mathlib.Core.Bool.{Bool, true, not}
+use mathlib.Core.List.{List, [], _∷_, _++_, append-nil}
+use Prim.Native.Nat.{ℕ, _+_, _≤_, _<_}
+use native.Mathlib.Numerals.{add-one}
+use native.Mathlib.Omega.{arith}
+use lib.ListN.{length, getD, set, take, drop, length-set, take-append-drop}
+use lib.Seq.{drop-cons, drop-drop, drop-length, drop-set-lt, take-suc-set, append-snoc}
+use lib.Dec.{lit<, ltb}
+use borrow.Author.Tests.{ltb-true}
+use Rattle.mealy.specs.Machine.{Machine, outs, end, Letters}
+use Rattle.coder.specs.Refusal.{refuse, lettersBelow}
+use Rattle.coder.specs.File.{statesOf, inputsOf, fileRefusal, machineOf}
+use Rattle.coder.specs.Table.{coderOf, tableAt, machineIn}
+use Rattle.coder.specs.Run.{runRefusal, Runnable, Ran}
+use Rattle.coder.specs.declared.inner.tables.Coder.{Coder}
+use Rattle.coder.proofs.Refusals.{refuse-not, first-none, letters-below, letters-higher}
+use Rattle.coder.proofs.Accepted.{Accepted, accepted}
+use Rattle.coder.proofs.Tables.{table-same, sound-coder}
+
+-- the run from st on xs has come to place i and to state s; the buffer was `before` and is o
+pub record Reached (M : Machine) (st : ℕ) (xs before o : List ℕ) (s i : ℕ) : Type 0 where
+  pub bound : i ≤ length xs
+  pub size : length o ≡ length before
+  pub ends : end M st xs ≡ end M s (drop i xs)
+  pub wrote : outs M st xs ≡ take i o ++ outs M s (drop i xs)
+  pub rest : drop i o ≡ drop i before
+
+pub reached-none : (M : Machine) (st : ℕ) (xs before : List ℕ) → Reached M st xs before before st 0
+reached-none M st xs before = record { bound = omega arith; size = refl; ends = refl; wrote = refl; rest = refl }
+
+pub reached-more :
+    {M : Machine} {st : ℕ} {xs before o : List ℕ} {s i x v s′ : ℕ} → Reached M st xs before o s i →
+    i < length xs → i < length o → x ≡ getD xs i 0 → v ≡ M .out s x → s′ ≡ M .next s x →
+    Reached M st xs before (set o i v) s′ (i + 1)
+reached-more {M} {st} {xs} {before} {o} {s} {i} {x} {v} {s′} a l r ex ev es =
+    record {
+      bound = omega arith;
+      size = length-set o i v ∙ a .size;
+      ends = rw (add-one, es, ex) (a .ends ∙ ap (end M s) (drop-cons xs i 0 l));
+      wrote =
+          rw (add-one, take-suc-set o i v r, append-snoc, ev, es, ex)
+          (a .wrote ∙ ap (λ t. take i o ++ outs M s t) (drop-cons xs i 0 l));
+      rest =
+          drop-set-lt (i + 1) o i v (omega arith) ∙ sym (drop-drop 1 i o) ∙ ap (drop 1) (a .rest) ∙ drop-drop 1 i before;
+    }
+
+module _ {M : Machine} {st : ℕ} {xs before o : List ℕ} {s i : ℕ} (a : Reached M st xs before o s i)
+    (e : i ≡ length xs) where
+  pub reached-end : s ≡ end M st xs
+  reached-end = sym (a .ends ∙ rw (e, drop-length))
+
+  pub reached-bytes : o ≡ outs M st xs ++ drop (length xs) before
+  reached-bytes = sym (take-append-drop i o) ∙ rw (a .rest, a .wrote, e, drop-length, append-nil)
+
+-- a run goes by the entries only
+module _ (M M′ : Machine) (n : M .next ≡ M′ .next) (o : M .out ≡ M′ .out) where
+  pub outs-agree : (s : ℕ) (xs : List ℕ) → outs M s xs ≡ outs M′ s xs
+  outs-agree s [] = refl
+  outs-agree s (x ∷ xs) =
+      ap₂ _∷_ (ap (λ (g : ℕ → ℕ → ℕ). g s x) o)
+      (ap (λ (g : ℕ → ℕ → ℕ). outs M (g s x) xs) n ∙ outs-agree (M′ .next s x) xs)
+
+  pub end-agree : (s : ℕ) (xs : List ℕ) → end M s xs ≡ end M′ s xs
+  end-agree s [] = refl
+  end-agree s (x ∷ xs) = ap (λ (g : ℕ → ℕ → ℕ). end M (g s x) xs) n ∙ end-agree (M′ .next s x) xs
+
+pub record RunAccepted (f : List ℕ) (s : ℕ) (xs : List ℕ) (fit : Bool) : Type 0 where
+  pub file : fileRefusal f ≡ 0
+  pub state : s < statesOf f
+  pub fits : fit ≡ true
+  pub letters : Letters (inputsOf f) xs
+
+pub run-accepted :
+    (f : List ℕ) (s : ℕ) (xs : List ℕ) (fit : Bool) → runRefusal f s xs fit ≡ 0 → RunAccepted f s xs fit
+unfolding runRefusal
+run-accepted f s xs fit e =
+    let l = lettersBelow (inputsOf f) xs in
+    let rest = refuse (not (ltb s (statesOf f))) 7 (refuse (not fit) 11 (refuse (not l) 12 0)) in
+    let a = first-none (fileRefusal f) rest e in
+    let b = refuse-not (ltb s (statesOf f)) _ _ (lit< tt) (a .1) in
+    let d = refuse-not fit _ _ (lit< tt) (b .1) in
+    let t = refuse-not l _ _ (lit< tt) (d .1) in
+    record {
+      file = a .0;
+      state = ltb-true _ _ (b .0);
+      fits = d .0;
+      letters = letters-below (inputsOf f) xs (t .0);
+    }
+
+-- the loop over the letters on the tables of the file
+module _ {c : Coder} {f : List ℕ} (e : c ≡ coderOf f) where
+  pub runnable :
+      {s : ℕ} {xs before : List ℕ} {fit : Bool} → RunAccepted f s xs fit → length xs ≤ length before →
+      Runnable (c .next) s xs before
+  unfolding coderOf
+  runnable {s} {xs} r l =
+      let a = accepted f (r .file) in
+      let h = a .header .limits in
+      let p = r .state in
+      rw e
+      record {
+        next-state = λ s i. omega (arith, sound-coder f a .next-state s i);
+        state = omega arith;
+        letters = letters-higher (inputsOf f) 16 xs (h .inputs-high) (r .letters);
+        room = l;
+      }
+
+  module _ (a : Accepted f) {s last : ℕ} {xs before after : List ℕ}
+      (r : Ran (c .next) (c .output) s xs before last after) where
+    abbrev M : Machine
+    M = machineIn 16 16 (c .next) (c .output)
+
+    next-same : tableAt (c .next) ≡ machineOf f .next
+    unfolding coderOf machineOf
+    next-same = rw e (table-same f 6 a)
+
+    output-same : tableAt (c .output) ≡ machineOf f .out
+    unfolding coderOf machineOf
+    output-same = rw e (table-same f 7 a)
+
+    pub ran-end : last ≡ end (machineOf f) s xs
+    ran-end = r .ends ∙ end-agree M (machineOf f) next-same output-same s xs
+
+    pub ran-bytes : after ≡ outs (machineOf f) s xs ++ drop (length xs) before
+    ran-bytes =
+        r .bytes ∙ ap (λ l. l ++ drop (length xs) before) (outs-agree M (machineOf f) next-same output-same s xs)

@@ -1,0 +1,46 @@
+-- The coder run: its refusal, its result and what it leaves in the lent buffer.
+use Prim.Native.Nat.{ℕ, _<_, _≤_}
+use mathlib.Core.Path.{_≡_}
+use mathlib.Core.Bool.{Bool, not}
+use mathlib.Core.List.{List, _++_}
+use lib.ListN.{length, drop}
+use lib.Dec.{ltb, leb}
+use Rattle.mealy.specs.Machine.{outs, end, Letters}
+use Rattle.coder.specs.Refusal.{refuse, first, answer, lettersBelow}
+use Rattle.coder.specs.File.{fileRefusal, statesOf, inputsOf, machineOf}
+use Rattle.coder.specs.Table.{tableAt, machineIn}
+use Rattle.coder.specs.declared.RunResult.{RunResult}
+use Rattle.coder.specs.declared.RunResult.the-variants.{Refused, Done}
+
+-- The run's refusal, in checking order: 1 to 6, then 7 (start state), 11 (some lent buffer is too short), 12 (an input letter).
+-- Whether all lent buffers are long enough is an argument, since a call may lend more than one.
+unfoldable pub runRefusal : List ℕ → ℕ → List ℕ → Bool → ℕ
+runRefusal f s xs fits =
+    first (fileRefusal f)
+    (refuse (not (ltb s (statesOf f))) 7
+    (refuse (not fits) 11
+    (refuse (not (lettersBelow (inputsOf f) xs)) 12
+    0)))
+
+-- one output letter is written for each input letter
+abbrev pub runRefusalIn : List ℕ → ℕ → List ℕ → List ℕ → ℕ
+runRefusalIn f s xs before = runRefusal f s xs (leb (length xs) (length before))
+
+-- What a run returns and leaves in the lent buffer, which held `before` at the call (demand 2, first sentence; "Numbers of
+-- refusal", the sentences on refused calls, on bytes past what is written and on counts): the first refusal that applies and
+-- the buffer as it was; or the number of letters written and the end state, and the outputs of the file's machine with the
+-- buffer's old bytes after them.
+pub record RunPromise (f : List ℕ) (s : ℕ) (xs before : List ℕ) (r : RunResult) (after : List ℕ) : Type 0 where
+  pub result : r ≡ answer (runRefusalIn f s xs before) (λ k. Refused k) (Done (length xs) (end (machineOf f) s xs))
+  pub bytes : after ≡ answer (runRefusalIn f s xs before) (λ k. before) (outs (machineOf f) s xs ++ drop (length xs) before)
+
+-- what the loop over the letters asks of the tables, and what it does
+pub record Runnable (next : List ℕ) (s : ℕ) (xs before : List ℕ) : Type 0 where
+  pub next-state : (s i : ℕ) → tableAt next s i < 16
+  pub state : s < 16
+  pub letters : Letters 16 xs
+  pub room : length xs ≤ length before
+
+pub record Ran (next output : List ℕ) (s : ℕ) (xs before : List ℕ) (last : ℕ) (after : List ℕ) : Type 0 where
+  pub ends : last ≡ end (machineIn 16 16 next output) s xs
+  pub bytes : after ≡ outs (machineIn 16 16 next output) s xs ++ drop (length xs) before

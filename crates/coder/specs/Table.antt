@@ -1,0 +1,51 @@
+-- The coder as the two tables that the code works on.
+use Prim.Native.Nat.{ℕ, zero, suc, _*_, _+_, _/_, _%_, _<_, _≤_}
+use mathlib.Core.List.{List, [], _∷_}
+use lib.ListN.{getD}
+use lib.Dec.{ltb}
+use Rattle.mealy.specs.Machine.{Machine}
+use Rattle.coder.specs.Refusal.{pick}
+use Rattle.coder.specs.Limits.{maxStates, maxInputs, maxOutputs, maxSide}
+use Rattle.coder.specs.File.{statesOf, inputsOf, outputsOf, entryOf}
+use Rattle.coder.specs.declared.inner.tables.Coder.{Coder}
+use Rattle.coder.specs.declared.inner.tables.Limits.{Limits}
+
+-- the list p 0, p 1, .. of n elements
+unfoldable pub table : ℕ → (ℕ → ℕ) → List ℕ
+table zero p = []
+table (suc n) p = p 0 ∷ table n (λ k. p (suc k))
+
+-- The four limits, as the code has them.
+abbrev pub limitsOf : Limits
+limitsOf = record { states = maxStates; inputs = maxInputs; outputs = maxOutputs; side = maxSide }
+
+-- A table of a file: the entry of state s and letter i stands at 16 s + i, and the other places hold 0.
+abbrev pub tableOf : List ℕ → ℕ → List ℕ
+tableOf f base = table 256 (λ k. entryOf f base (k / 16) (k % 16))
+
+-- The tables of an accepted file, with its counts (document 01, "How to write each place", first line).
+unfoldable pub coderOf : List ℕ → Coder
+coderOf f =
+    record { states = statesOf f; inputs = inputsOf f; outputs = outputsOf f; next = tableOf f 6; output = tableOf f 7 }
+
+-- what a table holds for state s and letter i; 0 where it has no such place
+unfoldable pub tableAt : List ℕ → ℕ → ℕ → ℕ
+tableAt t s i = pick (ltb i 16) (getD t (16 * s + i) 0) 0
+
+-- The machine in two tables. For an accepted file it is the file's machine (`machine-same` of proofs/Tables.antt).
+abbrev pub machineIn : ℕ → ℕ → List ℕ → List ℕ → Machine
+machineIn n i next output = record { states = n; inputs = i; next = tableAt next; out = tableAt output }
+
+abbrev pub machineOfCoder : Coder → Machine
+machineOfCoder c = machineIn (c .states) (c .inputs) (c .next) (c .output)
+
+-- What the tables of an accepted file keep to.
+pub record Sound (c : Coder) : Type 0 where
+  pub states-low : 1 ≤ c .states
+  pub states-high : c .states ≤ 16
+  pub inputs-low : 1 ≤ c .inputs
+  pub inputs-high : c .inputs ≤ 16
+  pub outputs-low : 1 ≤ c .outputs
+  pub outputs-high : c .outputs ≤ 64
+  pub next-state : (s i : ℕ) → tableAt (c .next) s i < c .states
+  pub output-letter : (s i : ℕ) → tableAt (c .output) s i < c .outputs

@@ -1,0 +1,52 @@
+// The run's refusal, and the run on the tables.
+ghost use mathlib.Core.Path.{_≡_};
+ghost use Rattle.coder.specs.Run.{runRefusal, Runnable, Ran};
+use crate::inner::bytes::byte;
+use crate::inner::bytes::letters_below;
+use crate::inner::tables::entry;
+
+// The refusal of a run, or 0. `fits` says whether all lent buffers are long enough.
+pub fn refusal(file: &[u8], start: usize, input: &[u8], fits: bool) -> usize
+    ensures { λ r. ⌜ r ≡ runRefusal (now (file .entry)) start (now (input .entry)) fits ⌝ }
+{
+    let k = crate::inner::file::refusal(file);
+    if k != 0 {
+        return k;
+    }
+    let states = byte(file, 3);
+    if start < states {
+        if fits {
+            if letters_below(byte(file, 4), input) {
+                0
+            } else {
+                12
+            }
+        } else {
+            11
+        }
+    } else {
+        7
+    }
+}
+
+// Writes the output letters of the run from start on the input, and returns the state in which it ends.
+pub fn letters<'a>(
+    next: &'a [u8; 256],
+    output: &'a [u8; 256],
+    start: usize,
+    input: &[u8],
+    written: &mut [u8],
+) -> usize
+    requires { ⌜ Runnable (now next) start (now input) (now written) ⌝ }
+    ensures { λ r. ⌜ Ran (now (next .entry)) (now (output .entry)) start (now (input .entry)) (now (written .entry)) r (now (written .exit)) ⌝ }
+{
+    let mut s = start;
+    let mut i = 0;
+    while i < input.len() {
+        let x = byte(input, i);
+        written[i] = entry(output, s, x) as u8;
+        s = entry(next, s, x);
+        i += 1;
+    }
+    s
+}
