@@ -12,3 +12,4 @@ pub mod LoopedPairs
 pub mod Answers
 pub mod Plain
 pub mod Examples
+pub mod ComesBack
