@@ -50,15 +50,15 @@ filled-more {n} {g} {k} {l} {v} f lt e =
       zero-from = λ j q. getD-set-other l k j v 0 (λ (z : j ≡ k). omega arith) ∙ f .zero-from j (omega arith);
     }
 
--- where g is 0 from k on
+-- where g is 0 from k to n
 pub filled-all :
-    {n : ℕ} {g : ℕ → ℕ} {k : ℕ} {l : List ℕ} → Filled n g k l → ((j : ℕ) → k ≤ j → g j ≡ 0) → l ≡ table n g
+    {n : ℕ} {g : ℕ → ℕ} {k : ℕ} {l : List ℕ} → Filled n g k l → ((j : ℕ) → k ≤ j → j < n → g j ≡ 0) → l ≡ table n g
 filled-all {n} {g} {k} {l} f h =
     let s = f .size in
     ext-getD 0 l (table n g) (s ∙ sym (length-table n g))
-    (λ j lt. holds j ∙ sym (getD-table n g j (omega arith)))
+    (λ j lt. holds j (omega arith) ∙ sym (getD-table n g j (omega arith)))
   where
-    holds : (j : ℕ) → getD l j 0 ≡ g j
-    holds j =
+    holds : (j : ℕ) → j < n → getD l j 0 ≡ g j
+    holds j m =
         elim (decLt j k)
-        [ yes p ↦ f .is j p | no p ↦ let q : k ≤ j = omega arith in f .zero-from j q ∙ sym (h j q) ]
+        [ yes p ↦ f .is j p | no p ↦ let q : k ≤ j = omega arith in f .zero-from j q ∙ sym (h j q m) ]

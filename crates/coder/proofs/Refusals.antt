@@ -12,7 +12,7 @@ use lib.Seq.{drop-cons}
 use lib.Dec.{ltb}
 use borrow.Author.Tests.{lt-ltb, le-ltb, le-leb, lt-leb, eq-eqb, ne-eqb, ltb-true, not-false}
 use Rattle.mealy.specs.Machine.{Letters}
-use Rattle.coder.specs.Refusal.{both, refuse, first, answer, allBelow, lettersBelow}
+use Rattle.coder.specs.Refusal.{both, refuse, first, answer, allBelow, lettersBelow, upon}
 
 -- the value of a test from what is known of its numbers
 pub ruleset tests = (lt-ltb, le-ltb, le-leb, lt-leb, eq-eqb, ne-eqb)
@@ -24,6 +24,10 @@ via e q = sym e ∙ q
 pub both-true : (a b : Bool) → both a b ≡ true → (a ≡ true) × (b ≡ true)
 both-true true b e = (refl, e)
 both-true false b e = (e, let z : _≡_ {A = ℕ} 0 1 = cc in absurd (omega arith))
+
+pub both-right : (t : Bool) → both t true ≡ t
+both-right true = refl
+both-right false = refl
 
 pub both-false : (a b : Bool) → b ≡ false → both a b ≡ false
 both-false true b e = e
@@ -57,6 +61,15 @@ answer-refused (suc k) r d h = refl
 pub refused-answer :
     {A : Type 0} {r : ℕ} (k : ℕ) (g : ℕ → A) (d : A) → r ≡ k → (r ≡ 0 → ⊥) → g r ≡ answer k g d
 refused-answer k g d e h = rw (← e) (sym (answer-refused _ g d h))
+
+-- a promise of a call whose refusal is k, from what the call returned
+pub upon-refused : (k : ℕ) (refused : ℕ → Type 0) (done : Type 0) {r : ℕ} → r ≡ k → (r ≡ 0 → ⊥) → refused r → upon k refused done
+upon-refused zero refused done e h p = absurd (h e)
+upon-refused (suc k) refused done e h p = rw e at p
+
+pub upon-done : (k : ℕ) (refused : ℕ → Type 0) (done : Type 0) → k ≡ 0 → done → upon k refused done
+upon-done zero refused done e p = p
+upon-done (suc k) refused done e p = absurd (omega arith)
 
 -- a test of every number below n
 pub all-more : (n : ℕ) (p : ℕ → Bool) → p n ≡ true → allBelow n p ≡ true → allBelow (n + 1) p ≡ true

@@ -60,6 +60,24 @@ at-place f b s i l =
     let q : (16 * s + i) % 16 ≡ i = omega arith in
     rw (p, q)
 
+-- the place of a table by its state and letter, and the other way round
+pub table-at : (t : List ℕ) (p : ℕ) → tableAt t (p / 16) (p % 16) ≡ getD t p 0
+unfolding tableAt
+table-at t p =
+    let e : 16 * (p / 16) + p % 16 ≡ p = omega arith in
+    rw (lt-ltb (p % 16) 16 (omega arith), e)
+
+pub table-place : (t : List ℕ) (s i : ℕ) → i < 16 → getD t (16 * s + i) 0 ≡ tableAt t s i
+unfolding tableAt
+table-place t s i l = rw (lt-ltb i 16 l)
+
+-- what stands at any place of sound tables
+pub next-high : (c : Coder) → Sound c → (p : ℕ) → getD (c .next) p 0 < c .states
+next-high c s p = rw (table-at (c .next) p) at (s .next-state (p / 16) (p % 16))
+
+pub output-high : (c : Coder) → Sound c → (p : ℕ) → getD (c .output) p 0 < c .outputs
+output-high c s p = rw (table-at (c .output) p) at (s .output-letter (p / 16) (p % 16))
+
 -- the tables of an accepted file hold its entries, at every state and letter
 module _ (f : List ℕ) (b : ℕ) (a : Accepted f) (s i : ℕ) where
   entry-at : i < 16 → getD (tableOf f b) (16 * s + i) 0 ≡ entryOf f b s i

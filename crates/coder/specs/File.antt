@@ -5,6 +5,7 @@ use mathlib.Core.List.{List, []}
 use lib.ListN.{length, getD, drop}
 use lib.Dec.{ltb, leb, eqb}
 use Rattle.mealy.specs.Machine.{Machine}
+use Rattle.mealy.specs.Setting.{Setting, anyState}
 use Rattle.coder.specs.Refusal.{pick, both, refuse, first, answer, allBelow}
 use Rattle.coder.specs.Limits.{maxStates, maxInputs, maxOutputs}
 use Rattle.coder.specs.declared.Header.{Header}
@@ -70,3 +71,7 @@ entryOf f base s i = pick (both (ltb s (statesOf f)) (ltb i (inputsOf f))) (getD
 -- The Mealy machine of an accepted file.
 unfoldable pub machineOf : List ℕ → Machine
 machineOf f = record { states = statesOf f; inputs = inputsOf f; next = entryOf f 6; out = entryOf f 7 }
+
+-- Its setting: a run may start in any state, and different letters are to be told apart.
+abbrev pub settingOf : List ℕ → Setting
+settingOf f = anyState (machineOf f)

@@ -1,5 +1,6 @@
 -- Refusals: a call goes down the list of numbers and takes the first that applies.
 use Prim.Native.Nat.{ℕ, zero, suc}
+use mathlib.Core.Path.{_≡_}
 use mathlib.Core.Bool.{Bool, true, false}
 use mathlib.Core.List.{List, [], _∷_}
 use lib.Dec.{ltb}
@@ -28,6 +29,11 @@ abbrev pub answer : {A : Type 0} → ℕ → (ℕ → A) → A → A
 answer zero refused done = done
 answer (suc k) refused done = refused (suc k)
 
+-- What holds of a call whose refusal is k: what a refusal asks, or what an answer asks where k is 0.
+abbrev pub upon : ℕ → (ℕ → Type 0) → Type 0 → Type 0
+upon zero refused done = done
+upon (suc k) refused done = refused (suc k)
+
 -- p holds of each number below n
 unfoldable pub allBelow : ℕ → (ℕ → Bool) → Bool
 allBelow zero p = true
@@ -37,3 +43,8 @@ allBelow (suc n) p = both (p n) (allBelow n p)
 abbrev pub lettersBelow : ℕ → List ℕ → Bool
 lettersBelow n [] = true
 lettersBelow n (x ∷ xs) = both (ltb x n) (lettersBelow n xs)
+
+-- r says whether A holds
+pub record Judges (A : Type 0) (r : Bool) : Type 0 where
+  pub yes′ : r ≡ true → A
+  pub no′ : r ≡ false → A → ⊥

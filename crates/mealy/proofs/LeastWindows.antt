@@ -8,8 +8,8 @@ use native.Mathlib.Decide.{decLe}
 use Rattle.mealy.specs.Setting.{Setting, Closed, Bounded}
 use Rattle.mealy.specs.Window.{Works}
 use Rattle.mealy.specs.Order.{Relation, Order, FewestLetters, Least}
-use Rattle.mealy.specs.Product.{forward, Settled}
-use Rattle.mealy.proofs.Windows.{works-settled}
+use Rattle.mealy.specs.Product.{back, forward, Settled}
+use Rattle.mealy.proofs.Windows.{works-settled, works-settled-back}
 use Rattle.mealy.proofs.Decisions.{dec-below, dec-works}
 
 -- ---- in any order
@@ -57,6 +57,13 @@ fewest-letters = record {
       let m = q .tie (omega arith) in
       omega arith;
 }
+
+-- no side of the least window is past the level where the levels of that side have settled
+pub least-sides : (S : Setting) → Closed S → (K L : ℕ) → Settled S back K → Settled S forward L → (b a : ℕ) → Least FewestLetters S b a → (b ≤ K) × (a ≤ L)
+least-sides S closed K L settledK settledL b a l =
+    let p = l .least K a (works-settled-back S closed K settledK b a (l .works)) in
+    let q = l .least b L (works-settled S closed L settledL b a (l .works)) in
+    (omega (arith, p .fewer), omega (arith, q .fewer))
 
 -- the least number with P, from one with P that is at most n
 least-number : (P : ℕ → Type 0) → ((m : ℕ) → Dec (P m)) → (n m : ℕ) → m ≤ n → P m → (l : ℕ) × P l × ((k : ℕ) → P k → l ≤ k)

@@ -13,3 +13,6 @@ pub mod Answers
 pub mod Plain
 pub mod Examples
 pub mod ComesBack
+pub mod Places
+pub mod Pigeonhole
+pub mod Starts

@@ -91,6 +91,12 @@ module _ (S : Setting) (closed : Closed S) where
       unambiguous→works b L (λ c.
       works→unambiguous S b a f (conflict-map (λ s t h. h) (λ u v h. endless S forward L settled u v h a) c))
 
+  -- and letters past the level where the back levels have settled help none
+  pub works-settled-back : (K : ℕ) → Settled S back K → (b a : ℕ) → Works S b a → Works S K a
+  works-settled-back K settled b a f =
+      unambiguous→works K a (λ c.
+      works→unambiguous S b a f (conflict-map (λ s t h. endless S back K settled s t h b) (λ u v h. h) c))
+
   -- a conflicting edge between settled levels: no window works, whatever its sides
   pub no-decoder : (K L : ℕ) → Settled S back K → Settled S forward L → Ambiguous S K L → (b a : ℕ) → Works S b a → ⊥
   no-decoder K L settledK settledL c b a f =

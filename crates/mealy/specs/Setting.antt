@@ -1,6 +1,9 @@
 -- A machine with the states in which a run may start and the pairs of letters that a window has to tell apart.
 use Prim.Native.Nat.{ℕ, _<_}
+use mathlib.Core.Path.{_≡_}
 use mathlib.Core.Logic.{_≢_}
+use mathlib.Core.List.{List}
+use lib.ListN.{getD}
 use Rattle.mealy.specs.Machine.{Machine}
 
 -- It holds no proof, so that a contract can cite it.
@@ -20,3 +23,7 @@ Bounded S = (s : ℕ) → S .Start s → s < S .M .states
 -- are to be told apart (the sentence that defines "works").
 abbrev pub anyState : Machine → Setting
 anyState M = record { M = M; Start = λ s. s < M .states; Conflict = λ i j. i ≢ j }
+
+-- The same with the start states as a list of flags: those whose flag is 1. The functions on tables take the start states so.
+abbrev pub flagged : Machine → List ℕ → Setting
+flagged M flags = record { M = M; Start = λ s. (s < M .states) × (getD flags s 0 ≡ 1); Conflict = λ i j. i ≢ j }

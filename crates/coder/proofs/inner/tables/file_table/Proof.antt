@@ -45,7 +45,7 @@ loop-again c =
     (search needs, i .1, filled-more (i .2) l (c .file-entry .ensures))
 
 returns : tie.Need-returns Inv-loop μ-loop
-returns c = filled-all (c .before .loop .inv .2) (λ j l. no-entry-from _ _ j (omega arith))
+returns c = filled-all (c .before .loop .inv .2) (λ j l m. no-entry-from _ _ j (omega arith))
 
 pub file-table-spec : {M : Type 1} → statement M
 file-table-spec =

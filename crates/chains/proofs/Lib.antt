@@ -1,0 +1,4 @@
+-- The laws of chains.
+pub mod Chains
+pub mod Entries
+pub mod Building

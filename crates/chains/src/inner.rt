@@ -1,0 +1,30 @@
+// No public calls: the chains of a coder's entries, for the library's own crates.
+ghost use Rattle.chains.specs.Chain.{Keys, Chained};
+
+// Entries are numbered from 1: entry p + 1 stands at place p of the tables. `last` has for each key the last entry with that key,
+// and `previous` for the place of an entry the entry before it with the same key; 0 for none.
+pub struct Chain {
+    pub last: [u16; 64],
+    pub previous: [u16; 256],
+}
+
+// Chains the entries of a coder with the given counts by their keys.
+pub fn by_key(keys: &[u8; 256], states: usize, inputs: usize) -> Chain
+    requires { ⌜ Keys (now keys) states inputs ⌝ }
+    ensures { λ r. ⌜ Chained (now (keys .entry)) states inputs r ⌝ }
+{
+    let mut last = [0u16; 64];
+    let mut previous = [0u16; 256];
+    let end = 16 * states;
+    let mut p = 0;
+    while p < end {
+        let place = p;
+        p += 1;
+        if place % 16 < inputs {
+            let key = keys[place] as usize;
+            previous[place] = last[key];
+            last[key] = p as u16;
+        }
+    }
+    Chain { last, previous }
+}

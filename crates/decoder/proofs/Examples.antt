@@ -1,0 +1,129 @@
+-- Document 01's examples by computation: the tables of A and D, and windows of G with each of the three answers. So the records of accepted
+-- calls are met by something, and each answer occurs.
+use mathlib.Core.Path.{_≡_, refl, subst}
+use mathlib.Core.List.{List, [], _∷_, _++_}
+use Prim.Native.Nat.{ℕ, _+_}
+use native.Mathlib.Omega.{arith}
+use lib.ListN.{length, drop}
+use lib.Dec.{leb}
+use borrow.Author.Tests.{leb-true}
+use Rattle.mealy.specs.Answer.{byteOf}
+use Rattle.coder.specs.Refusal.{allBelow}
+use Rattle.coder.specs.File.{within, inRange, entryInRange, headerRefusal, fileRefusal, outputsOf, entryOf}
+use Rattle.coder.specs.Table.{table, coderOf}
+use Rattle.chains.specs.Chain.{isEntry, hasKey, over}
+use Rattle.pass.specs.Answer.{meaning, Right}
+use Rattle.pass.specs.Pass.{union, add, advance, pass, unionOf, answerOf, decoded}
+use Rattle.pass.specs.declared.Answer.{Answer}
+use Rattle.pass.specs.declared.Answer.the-variants.{Letter, None, Several}
+use Rattle.pass.proofs.Meaning.{right-byte}
+use Rattle.coder.specs.File.{settingOf}
+use Rattle.decoder.specs.Written.{Written}
+use Rattle.decoder.specs.Refusal.{sidesRefusal, windowRefusal, tableSize, tableRefusal}
+use Rattle.decoder.specs.Window.{WindowPromise}
+use Rattle.decoder.specs.Table.{windowAt, EntryAt, tableRefusalIn, TablePromise}
+use Rattle.decoder.specs.declared.WindowResult.the-variants.{Refused, Answered}
+use Rattle.decoder.specs.declared.CountResult.the-variants.{Done}
+use Rattle.decoder.proofs.Accepting.{window-accepted, table-accepted}
+use Rattle.decoder.proofs.Writing.{written-front}
+use Rattle.decoder.proofs.Indices.{length-window}
+use Rattle.decoder.proofs.Decoding.{anyFlags, file-right}
+
+-- ---- a call on a file, from what the pass computes
+
+answered :
+    (f : List ℕ) (b a : ℕ) (w : List ℕ) (v : Answer) → windowRefusal f b a w ≡ 0 →
+    decoded (coderOf f) anyFlags w b ≡ v → WindowPromise f b a w (Answered v)
+answered f b a w v z e =
+    let h = window-accepted f b a w z in
+    rw z
+    record {
+      answer = v;
+      is = refl;
+      right = subst (λ x. Right (settingOf f) w b x) e (file-right f (h .sides .file) w b (omega (arith, h .size)));
+    }
+
+-- the byte at index k
+abbrev entryAt : List ℕ → ℕ → ℕ → ℕ → ℕ
+entryAt f b a k = byteOf (meaning (decoded (coderOf f) anyFlags (windowAt (outputsOf f) (b + 1 + a) k) b))
+
+filled :
+    (f : List ℕ) (b a : ℕ) (before bytes : List ℕ) → tableRefusalIn f b a before ≡ 0 →
+    table (tableSize (outputsOf f) b a) (entryAt f b a) ≡ bytes →
+    TablePromise f b a before (Done (tableSize (outputsOf f) b a)) (bytes ++ drop (tableSize (outputsOf f) b a) before)
+filled f b a before bytes z e =
+    let n = tableSize (outputsOf f) b a in
+    let h = table-accepted f b a (leb n (length before)) z in
+    let Q = EntryAt (settingOf f) (outputsOf f) (b + 1 + a) b in
+    record {
+      result = rw z;
+      bytes =
+          rw z
+          (subst (λ l. Written Q n before (l ++ drop n before)) e
+          (written-front (entryAt f b a) (leb-true _ _ (h .fits))
+          (λ k l.
+          let w = windowAt (outputsOf f) (b + 1 + a) k in
+          right-byte (settingOf f) w b (decoded (coderOf f) anyFlags w b)
+          (file-right f (h .sides .file) w b (omega (arith, length-window (outputsOf f) (b + 1 + a) k))))));
+    }
+
+-- ---- A: its table for the window 1 0 is 0 1 1 0
+
+-- 01 00 0B 02 02 02 00 00 01 01 01 01 00 00
+abbrev fileA : List ℕ
+fileA = 1 ∷ 0 ∷ 11 ∷ 2 ∷ 2 ∷ 2 ∷ 0 ∷ 0 ∷ 1 ∷ 1 ∷ 1 ∷ 1 ∷ 0 ∷ 0 ∷ []
+
+A-accepted : fileRefusal fileA ≡ 0
+unfolding fileRefusal headerRefusal inRange within entryInRange allBelow
+A-accepted = refl
+
+-- a buffer of five bytes, of which the last stays
+pub A-table : TablePromise fileA 1 0 (9 ∷ 9 ∷ 9 ∷ 9 ∷ 9 ∷ []) (Done 4) (0 ∷ 1 ∷ 1 ∷ 0 ∷ 9 ∷ [])
+unfolding tableRefusal sidesRefusal windowAt decoded pass advance add union unionOf answerOf coderOf table entryOf over hasKey isEntry
+A-table = filled fileA 1 0 (9 ∷ 9 ∷ 9 ∷ 9 ∷ 9 ∷ []) (0 ∷ 1 ∷ 1 ∷ 0 ∷ []) (rw A-accepted) refl
+
+-- ---- D: its table for the window 0 1 is 0 1 0 1
+
+-- 01 00 0B 02 02 02 00 00 01 00 00 01 01 01
+abbrev fileD : List ℕ
+fileD = 1 ∷ 0 ∷ 11 ∷ 2 ∷ 2 ∷ 2 ∷ 0 ∷ 0 ∷ 1 ∷ 0 ∷ 0 ∷ 1 ∷ 1 ∷ 1 ∷ []
+
+D-accepted : fileRefusal fileD ≡ 0
+unfolding fileRefusal headerRefusal inRange within entryInRange allBelow
+D-accepted = refl
+
+pub D-table : TablePromise fileD 0 1 (9 ∷ 9 ∷ 9 ∷ 9 ∷ []) (Done 4) (0 ∷ 1 ∷ 0 ∷ 1 ∷ [])
+unfolding tableRefusal sidesRefusal windowAt decoded pass advance add union unionOf answerOf coderOf table entryOf over hasKey isEntry
+D-table = filled fileD 0 1 (9 ∷ 9 ∷ 9 ∷ 9 ∷ []) (0 ∷ 1 ∷ 0 ∷ 1 ∷ []) (rw D-accepted) refl
+
+-- ---- G: a letter, none, several
+
+-- 01 00 13 04 02 06, and the rows 1/4 1/5, 2/0 3/0, 2/0 2/1, 3/2 3/3
+abbrev fileG : List ℕ
+fileG =
+    1 ∷ 0 ∷ 19 ∷ 4 ∷ 2 ∷ 6 ∷ 1 ∷ 4 ∷ 1 ∷ 5 ∷ 2 ∷ 0 ∷ 3 ∷ 0 ∷ 2 ∷ 0 ∷ 2 ∷ 1 ∷ 3 ∷ 2 ∷ 3 ∷ 3 ∷ []
+
+G-accepted : fileRefusal fileG ≡ 0
+unfolding fileRefusal headerRefusal inRange within entryInRange allBelow
+G-accepted = refl
+
+pub G-letter-0 : WindowPromise fileG 0 1 (0 ∷ 0 ∷ []) (Answered (Letter 0))
+unfolding windowRefusal sidesRefusal decoded pass advance add union unionOf answerOf coderOf table entryOf over hasKey isEntry
+G-letter-0 = answered fileG 0 1 (0 ∷ 0 ∷ []) (Letter 0) (rw G-accepted) refl
+
+pub G-letter-1 : WindowPromise fileG 0 1 (0 ∷ 2 ∷ []) (Answered (Letter 1))
+unfolding windowRefusal sidesRefusal decoded pass advance add union unionOf answerOf coderOf table entryOf over hasKey isEntry
+G-letter-1 = answered fileG 0 1 (0 ∷ 2 ∷ []) (Letter 1) (rw G-accepted) refl
+
+pub G-none : WindowPromise fileG 0 1 (1 ∷ 2 ∷ []) (Answered None)
+unfolding windowRefusal sidesRefusal decoded pass advance add union unionOf answerOf coderOf table entryOf over hasKey isEntry
+G-none = answered fileG 0 1 (1 ∷ 2 ∷ []) None (rw G-accepted) refl
+
+pub G-several : WindowPromise fileG 0 0 (0 ∷ []) (Answered Several)
+unfolding windowRefusal sidesRefusal decoded pass advance add union unionOf answerOf coderOf table entryOf over hasKey isEntry
+G-several = answered fileG 0 0 (0 ∷ []) Several (rw G-accepted) refl
+
+-- with one letter too few the call is refused with 9
+pub G-refused : WindowPromise fileG 0 1 (0 ∷ []) (Refused 9)
+unfolding windowRefusal sidesRefusal
+G-refused = rw G-accepted refl

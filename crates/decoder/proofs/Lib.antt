@@ -1,0 +1,10 @@
+-- Laws of the decoder's calls.
+pub mod Accepting
+pub mod Sizes
+pub mod Writing
+pub mod Indices
+pub mod Filling
+pub mod Decoding
+pub mod Determined
+pub mod ComeBack
+pub mod Examples

@@ -1,0 +1,90 @@
+-- `places::decode_places` meets its contract: before each turn the first k places are decoded.
+use mathlib.Core.Path.{_≡_, refl, ap, _∙_}
+use Prim.Native.Nat.{_+_, _≤_, _-_}
+use lib.ListN.{length}
+use Rattle.mealy.specs.Answer.{byteOf}
+use Rattle.mealy.proofs.ComesBack.{letters-take, letters-drop}
+use Rattle.pass.specs.Answer.{meaning}
+use Rattle.coder.specs.declared.inner.tables.Coder.{Coder}
+use Rattle.pass.specs.Pass.{ArraysOf}
+use Rattle.decoder.specs.Places.{PlacesDecoded}
+use Rattle.decoder.proofs.Writing.{written-none, written-more}
+use borrow.Author.Needs.{needs}
+use native.Mathlib.Omega.{arith}
+use Rattle.decoder.proofs.inner.places.decode_places.Statement.{statement}
+use Rattle.decoder.proofs.inner.places.decode_places.Tie as tie
+
+abbrev Inv-loop : tie.InvT-loop
+Inv-loop next last previous states flags received b n m output₀ k₀ output k =
+    (k ≤ m) × (length output ≡ length output₀) × ((c : Coder) → ArraysOf c next last previous → states ≡ c .states → PlacesDecoded c flags received b n k output₀ output)
+
+abbrev μ-loop : tie.MeasureT-loop
+μ-loop next last previous states flags received b n m output₀ k₀ output k = m - k
+
+loop-holds : tie.Need-loop-holds Inv-loop μ-loop
+loop-holds c = (search needs, refl, λ d a e. written-none _ _)
+
+add-end : tie.Need-add-end Inv-loop μ-loop
+add-end c = search needs
+
+sub-decode : tie.Need-sub-decode Inv-loop μ-loop
+sub-decode c = search needs
+
+part-decode-start : tie.Need-part-decode-start Inv-loop μ-loop
+part-decode-start c = search needs
+
+part-decode-end : tie.Need-part-decode-end Inv-loop μ-loop
+part-decode-end c = search needs
+
+decode-requires : tie.Need-decode-requires Inv-loop μ-loop
+decode-requires c κs =
+    let p = c .before .before .before .before .before .pre in
+    (p .arrays, (p .states-high, search (letters-take, letters-drop, p .letters)))
+
+answer-byte-requires : tie.Need-answer-byte-requires Inv-loop μ-loop
+answer-byte-requires c κs = search needs
+
+slice-write-output : tie.Need-slice-write-output Inv-loop μ-loop
+slice-write-output c = search needs
+
+add-k : tie.Need-add-k Inv-loop μ-loop
+add-k c = search needs
+
+loop-less : tie.Need-loop-less Inv-loop μ-loop
+loop-less c = search needs
+
+loop-again : tie.Need-loop-again Inv-loop μ-loop
+loop-again c = let p = c .before .before .before .before .before .before .before .args in
+    let i = c .before .before .before .before .loop in
+    let n : i .k + p .n - i .k ≡ p .n = omega arith in (
+      search needs,
+      search needs,
+      λ d a e. written-more (i .inv .2 d a e) (omega (arith, c .before .before .before .before .before .before .before .pre, i .inv, c .before .before .before .loop-test))
+          (c .answer-byte .ensures ∙ ap (λ x. byteOf (meaning x)) (c .before .decode .ensures d a e) ∙ rw n),
+    )
+
+same-length : tie.Need-same-length Inv-loop μ-loop
+same-length c = search needs
+
+returns : tie.Need-returns Inv-loop μ-loop
+returns c = λ d a e. let q : c .before .loop .k ≡ c .before .before .before .before .args .m = omega arith in rw q at (c .before .loop .inv .2 d a e)
+
+pub decode-places-spec : {M : Type 1} → statement M
+decode-places-spec =
+    tie.close
+    (tie.spec
+    Inv-loop
+    μ-loop
+    loop-holds
+    add-end
+    sub-decode
+    part-decode-start
+    part-decode-end
+    decode-requires
+    answer-byte-requires
+    slice-write-output
+    add-k
+    loop-less
+    loop-again
+    same-length
+    returns)

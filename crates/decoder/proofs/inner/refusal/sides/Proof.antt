@@ -1,0 +1,40 @@
+-- `refusal::sides` meets its contract: the file's refusals, then 8.
+use mathlib.Core.Path.{_≡_}
+use native.Mathlib.Omega.{arith}
+use denote.Ref.{now}
+use borrow.Author.Needs.{needs}
+use borrow.Author.Tests.{lt-leb, le-leb}
+use Rattle.coder.specs.File.{fileRefusal}
+use Rattle.coder.proofs.Refusals.{refused-first, via}
+use Rattle.decoder.specs.Refusal.{sidesRefusal}
+use Rattle.decoder.proofs.inner.refusal.sides.Statement.{statement}
+use Rattle.decoder.proofs.inner.refusal.sides.Tie as tie
+
+refusal-requires : tie.Need-refusal-requires
+refusal-requires c κs = search needs
+
+returns : tie.Need-returns
+unfolding sidesRefusal
+returns c = refused-first _ _ (c .before .refusal .ensures) (c .if1 .taken)
+
+file-accepted : (c : tie.Else1) → fileRefusal (now (c .before .before .before .args .file)) ≡ 0
+file-accepted c = via (c .before .refusal .ensures) (c .if1 .left)
+
+returns-2 : tie.Need-returns-2
+unfolding sidesRefusal
+returns-2 c = rw (file-accepted (c .before), lt-leb (c .before .before .before .before .args .b) 136 (omega arith))
+
+returns-3 : tie.Need-returns-3
+unfolding sidesRefusal
+returns-3 c =
+    let a = c .before .before .before .before .before .args in
+    rw (file-accepted (c .before .before), le-leb (a .b) 136 (omega arith), lt-leb (a .a) 136 (omega arith))
+
+returns-4 : tie.Need-returns-4
+unfolding sidesRefusal
+returns-4 c =
+    let a = c .before .before .before .before .before .args in
+    rw (file-accepted (c .before .before), le-leb (a .b) 136 (omega arith), le-leb (a .a) 136 (omega arith))
+
+pub sides-spec : {M : Type 1} → statement M
+sides-spec = tie.close (tie.spec refusal-requires returns returns-2 returns-3 returns-4)

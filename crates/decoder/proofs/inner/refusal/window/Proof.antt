@@ -1,0 +1,59 @@
+-- `refusal::window` meets its contract: the refusals of the file and the sides, then 9 and 13 in order.
+use mathlib.Core.Path.{_≡_}
+use native.Mathlib.Omega.{arith}
+use denote.Ref.{now}
+use borrow.Author.Needs.{needs}
+use Rattle.coder.proofs.Refusals.{refused-first, tests, via}
+use Rattle.coder.proofs.Accepted.{accepted}
+use Rattle.decoder.specs.Refusal.{sidesRefusal, windowRefusal}
+use Rattle.decoder.proofs.Accepting.{sides-accepted}
+use Rattle.decoder.proofs.inner.refusal.window.Statement.{statement}
+use Rattle.decoder.proofs.inner.refusal.window.Tie as tie
+
+sides-requires : tie.Need-sides-requires
+sides-requires c κs = search needs
+
+returns : tie.Need-returns
+unfolding windowRefusal
+returns c = refused-first _ _ (c .before .sides .ensures) (c .if1 .taken)
+
+not-refused : (c : tie.Else1) → let a = c .before .before .before .before .args in sidesRefusal (now (a .file)) (a .b) (a .a) ≡ 0
+not-refused c = via (c .before .sides .ensures) (c .if1 .left)
+
+add-n : tie.Need-add-n
+add-n c = omega (arith, sides-accepted _ _ _ (not-refused c))
+
+add-n-2 : tie.Need-add-n-2
+add-n-2 c = omega (arith, sides-accepted _ _ _ (not-refused c))
+
+returns-2 : tie.Need-returns-2
+unfolding windowRefusal
+returns-2 c = rw (not-refused (c .before)) (search tests)
+
+byte-requires : tie.Need-byte-requires
+byte-requires c κs = omega (arith, accepted _ (sides-accepted _ _ _ (not-refused (c .before)) .file))
+
+letters-below-requires : tie.Need-letters-below-requires
+letters-below-requires c κs = search needs
+
+returns-3 : tie.Need-returns-3
+unfolding windowRefusal
+returns-3 c = rw (not-refused (c .before .before .before .before), ← (c .before .before .byte .ensures .0), via (c .before .letters-below .ensures) (c .if3 .taken)) (search tests)
+
+returns-4 : tie.Need-returns-4
+unfolding windowRefusal
+returns-4 c = rw (not-refused (c .before .before .before .before), ← (c .before .before .byte .ensures .0), via (c .before .letters-below .ensures) (c .if3 .left)) (search tests)
+
+pub window-spec : {M : Type 1} → statement M
+window-spec =
+    tie.close
+    (tie.spec
+    sides-requires
+    returns
+    add-n
+    add-n-2
+    returns-2
+    byte-requires
+    letters-below-requires
+    returns-3
+    returns-4)

@@ -1,0 +1,6 @@
+-- What the contracts of the decoder cite.
+pub mod Written
+pub mod Refusal
+pub mod Window
+pub mod Places
+pub mod Table

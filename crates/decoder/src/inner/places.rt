@@ -1,0 +1,41 @@
+// The places of a string that have a full window.
+ghost use mathlib.Core.Path.{_≡_};
+ghost use Prim.Native.Nat.{ℕ, _+_, _≤_};
+ghost use Rattle.coder.specs.declared.inner.tables.Coder.{Coder};
+ghost use Rattle.pass.specs.Pass.{Arrays, ArraysOf};
+ghost use Rattle.decoder.specs.Places.{places as placesOf, PlacesAsked, PlacesDecoded};
+use pass::inner::answer_byte;
+use pass::inner::decode;
+
+// How many places of a string of len letters have a full window.
+pub fn places(len: usize, b: usize, a: usize) -> usize
+    requires { ⌜ (b ≤ 136) × (a ≤ 136) ⌝ }
+    ensures { λ r. ⌜ r ≡ placesOf len b a ⌝ }
+{
+    if len < b + a { 0 } else { len - (b + a) }
+}
+
+// Decodes the parts of n letters that start at the first m places of the received letters, each by itself.
+pub fn decode_places<'a>(
+    next: &'a [u8; 256],
+    last: &'a [u16; 64],
+    previous: &'a [u16; 256],
+    states: usize,
+    flags: &'a [u8; 16],
+    received: &[u8],
+    b: usize,
+    n: usize,
+    m: usize,
+    output: &mut [u8],
+)
+    requires { ⌜ PlacesAsked (now next) (now last) (now previous) states (now received) n m (now output) ⌝ }
+    ensures { λ _. ⌜ ((c : Coder) → ArraysOf c (now (next .entry)) (now (last .entry)) (now (previous .entry)) → states ≡ c .states → PlacesDecoded c (now (flags .entry)) (now (received .entry)) b n m (now (output .entry)) (now (output .exit))) ⌝ }
+{
+    let mut k = 0;
+    while k < m {
+        let end = k + n;
+        let part = decode(next, last, previous, states, flags, &received[k..end], b);
+        output[k] = answer_byte(part);
+        k += 1;
+    }
+}

@@ -1,0 +1,71 @@
+// The decoder table, filled letter by letter: the windows that begin alike share the pass over what they have in common.
+ghost use mathlib.Core.Path.{_≡_};
+ghost use Prim.Native.Nat.{ℕ, _≤_};
+ghost use Rattle.coder.specs.declared.inner.tables.Coder.{Coder};
+ghost use Rattle.pass.specs.Pass.{ArraysOf};
+ghost use Rattle.decoder.specs.Table.{sizeOf, FillAsked, Filled};
+use pass::inner::advance;
+use pass::inner::answer;
+use pass::inner::answer_byte;
+
+// The number of windows of n letters to base o, or 0 where there are more than 65,536.
+pub fn size(o: usize, n: usize) -> usize
+    requires { ⌜ (1 ≤ o) × (o ≤ 64) ⌝ }
+    ensures { λ r. ⌜ r ≡ sizeOf o n ⌝ }
+{
+    let mut size: usize = 1;
+    let mut i = 0;
+    while i < n {
+        size *= o;
+        if 65536 < size {
+            return 0;
+        }
+        i += 1;
+    }
+    size
+}
+
+// Fills the part of the table whose windows have `left` letters more, after letters that led to the bytes v. The present letter is
+// the one numbered `present` of those left, counted from 1; 0 where it has been read.
+pub fn fill<'a>(
+    next: &'a [u8; 256],
+    last: &'a [u16; 64],
+    previous: &'a [u16; 256],
+    states: usize,
+    outputs: usize,
+    v: &'a [u8; 16],
+    left: usize,
+    present: usize,
+    table: &mut [u8],
+)
+    requires { ⌜ FillAsked (now next) (now last) (now previous) states outputs left (now table) ⌝ }
+    ensures { λ _. ⌜ ((c : Coder) → ArraysOf c (now (next .entry)) (now (last .entry)) (now (previous .entry)) → states ≡ c .states → Filled c outputs (now (v .entry)) left present (now (table .exit))) ⌝ }
+{
+    if left == 0 {
+        table[0] = answer_byte(answer(v, states));
+        return;
+    }
+    let size = table.len() / outputs;
+    let mut after: usize = 0;
+    if 0 < present {
+        after = present - 1;
+    }
+    let mut o = 0;
+    while o < outputs {
+        let to = advance(next, last, previous, v, o, present == 1);
+        let from = o * size;
+        let end = from + size;
+        fill(
+            next,
+            last,
+            previous,
+            states,
+            outputs,
+            &to,
+            left - 1,
+            after,
+            &mut table[from..end],
+        );
+        o += 1;
+    }
+}

@@ -1,0 +1,63 @@
+-- `answer` meets its contract. u is the union of the bytes of the first s states.
+use Rattle.coder.proofs.Refusals.{tests}
+use Rattle.pass.specs.Pass.{unionOf, answerOf}
+use mathlib.Core.Path.{_≡_, refl}
+use Prim.Native.Nat.{_≤_, _-_}
+use Rattle.pass.proofs.Steps.{union-more, union-all}
+use borrow.Author.Needs.{needs}
+use native.Mathlib.Omega.{arith}
+use Rattle.pass.proofs.inner.answer.Statement.{statement}
+use Rattle.pass.proofs.inner.answer.Tie as tie
+
+abbrev Inv-loop : tie.InvT-loop
+Inv-loop v states u₀ s₀ u s = (s ≤ states) × (u ≡ unionOf s v)
+
+abbrev μ-loop : tie.MeasureT-loop
+μ-loop v states u₀ s₀ u s = states - s
+
+loop-holds : tie.Need-loop-holds Inv-loop μ-loop
+unfolding unionOf
+loop-holds c = (search needs, refl)
+
+element-copy-out-union : tie.Need-element-copy-out-union Inv-loop μ-loop
+element-copy-out-union c = search needs
+
+union-requires : tie.Need-union-requires Inv-loop μ-loop
+union-requires c κs = search needs
+
+add-s : tie.Need-add-s Inv-loop μ-loop
+add-s c = search needs
+
+loop-less : tie.Need-loop-less Inv-loop μ-loop
+loop-less c = search needs
+
+loop-again : tie.Need-loop-again Inv-loop μ-loop
+loop-again c = (search needs, union-more _ _ (c .before .before .before .loop .inv .1) (c .union .ensures))
+
+returns : tie.Need-returns Inv-loop μ-loop
+unfolding answerOf
+returns c = union-all _ (c .before .before .loop .inv .1) (omega arith) (search tests)
+
+returns-2 : tie.Need-returns-2 Inv-loop μ-loop
+unfolding answerOf
+returns-2 c = union-all _ (c .before .before .before .loop .inv .1) (omega arith) (search tests)
+
+returns-3 : tie.Need-returns-3 Inv-loop μ-loop
+unfolding answerOf
+returns-3 c = union-all _ (c .before .before .before .loop .inv .1) (omega arith) (search tests)
+
+pub answer-spec : {M : Type 1} → statement M
+answer-spec =
+    tie.close
+    (tie.spec
+    Inv-loop
+    μ-loop
+    loop-holds
+    element-copy-out-union
+    union-requires
+    add-s
+    loop-less
+    loop-again
+    returns
+    returns-2
+    returns-3)

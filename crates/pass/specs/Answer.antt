@@ -1,0 +1,25 @@
+-- The decoder's answer, and when it is right.
+use Prim.Native.Nat.{ℕ}
+use mathlib.Core.Path.{_≡_}
+use mathlib.Core.List.{List}
+use Rattle.mealy.specs.Setting.{Setting}
+use Rattle.mealy.specs.Answer as mealy
+use Rattle.pass.specs.declared.Answer.{Answer}
+use Rattle.pass.specs.declared.Answer.the-variants.{Letter, None, Several}
+
+-- The code's three cases as those of the theory (document 01, "Decoding", second sentence). `mealy.byteOf` gives each one's
+-- byte: the letter, 254, 255.
+abbrev pub meaning : Answer → mealy.Answer
+meaning (Letter x) = mealy.letter x
+meaning None = mealy.none
+meaning Several = mealy.several
+
+-- The answer is right for the letters w of a window with b letters before the present one.
+abbrev pub Right : Setting → List ℕ → ℕ → Answer → Type 0
+Right S w b v = mealy.Answers S w b (meaning v)
+
+-- v is the byte of a right answer.
+pub record RightByte (S : Setting) (w : List ℕ) (b v : ℕ) : Type 0 where
+  pub answer : mealy.Answer
+  pub right : mealy.Answers S w b answer
+  pub byte : v ≡ mealy.byteOf answer
