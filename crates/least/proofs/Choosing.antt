@@ -1,0 +1,95 @@
+-- The most past each place, from the end; and the first of the candidates.
+use mathlib.Core.Path.{_≡_, sym, _∙_}
+use mathlib.Core.List.{List}
+use Prim.Native.Nat.{ℕ, _+_, _-_, _≤_, _<_, max}
+use native.Mathlib.Omega.{arith}
+use native.Mathlib.Decide.{ℕ-discrete, decLe}
+use lib.ListN.{length, getD, set, length-set}
+use lib.Seq.{getD-set-same, getD-set-other}
+use Rattle.mealy.specs.Order.{FewestLetters}
+use Rattle.least.specs.Need.{MostPast}
+
+-- ---- from the end to place f: `most` is the most from f on, and the places from f on are filled
+
+pub record NeedsFrom (worst : List ℕ) (f : ℕ) (need : List ℕ) (most : ℕ) : Type 0 where
+  pub size : length need ≡ 256
+  pub past : MostPast worst f most
+  pub filled : (a : ℕ) → f ≤ a → a < 255 → MostPast worst a (getD need a 0)
+
+pub needs-start : (worst need : List ℕ) → length need ≡ 256 → NeedsFrom worst 255 need 0
+needs-start worst need e = record {
+  size = e;
+  past = record { upper = λ f l m. absurd (omega arith); source = λ l. absurd (omega arith) };
+  filled = λ a l m. absurd (omega arith);
+}
+
+module _ {worst need : List ℕ} {f most : ℕ} (n : NeedsFrom worst f need most) (inside : f < 256) (some : 0 < f) where
+  -- one place earlier the number at f counts too
+  past-more : MostPast worst (f - 1) (max most (getD worst f 0))
+  past-more =
+      let p = n .past in
+      record {
+        upper = λ g l m. elim (ℕ-discrete g f) [
+          | yes e ↦ rw e (omega arith)
+          | no e ↦ omega (arith, p .upper g (omega arith) m)
+        ];
+        source = λ l. elim (decLe (getD worst f 0) most) [
+          | yes e ↦ (let s = p .source (omega arith) in (s .0, omega (arith, s .1), s .2, omega (arith, s .3)))
+          | no e ↦ (f, omega arith, inside, omega arith)
+        ];
+      }
+
+  pub needs-more : {x : ℕ} → x ≡ max most (getD worst f 0) → NeedsFrom worst (f - 1) (set need (f - 1) x) x
+  needs-more {x} e = record {
+    size = length-set need (f - 1) x ∙ n .size;
+    past = rw e past-more;
+    filled = λ a l m. elim (ℕ-discrete a (f - 1)) [
+      | yes z ↦ rw (z, getD-set-same need (f - 1) x 0 (omega (arith, n .size)), e) past-more
+      | no z ↦ rw (getD-set-other need (f - 1) a x 0 z) (n .filled a (omega arith) m)
+    ];
+  }
+
+-- ---- the first of the candidates of lookahead a to 136
+
+pub record FirstFrom (need : List ℕ) (a before after : ℕ) : Type 0 where
+  pub low : a ≤ after
+  pub lookahead : after ≤ 136
+  pub finite : before < 255
+  pub is : before ≡ getD need after 0
+  pub first : (c : ℕ) → a ≤ c → c ≤ 136 → getD need c 0 < 255 → FewestLetters before after (getD need c 0) c
+
+pub first-start : (need : List ℕ) (x : ℕ) → x ≡ getD need 136 0 → getD need 136 0 < 255 → FirstFrom need 136 x 136
+first-start need x e l = record {
+  low = omega arith;
+  lookahead = omega arith;
+  finite = omega arith;
+  is = e;
+  first = λ c m n k. let z : c ≡ 136 = omega arith in rw (z, e) (record { fewer = omega arith; tie = λ w. omega arith });
+}
+
+module _ {need : List ℕ} {a before after b : ℕ} (f : FirstFrom need a before after) (some : 0 < a) (e : b ≡ getD need (a - 1) 0) where
+  -- no candidate, or one with more letters
+  pub first-stays : (b < 255 → before + after < b + (a - 1)) → FirstFrom need (a - 1) before after
+  first-stays h = record {
+    low = let l = f .low in omega arith;
+    lookahead = f .lookahead;
+    finite = f .finite;
+    is = f .is;
+    first = λ c m n k. elim (ℕ-discrete c (a - 1)) [
+      | yes z ↦ (let w : getD need c 0 ≡ b = rw z (sym e) in let l = h (omega arith) in rw (w, z) (record { fewer = omega arith; tie = λ y. absurd (omega arith) }))
+      | no z ↦ f .first c (omega arith) n k
+    ];
+  }
+
+  -- one with no more letters has less lookahead
+  pub first-changes : b < 255 → b + (a - 1) ≤ before + after → FirstFrom need (a - 1) b (a - 1)
+  first-changes l m = record {
+    low = omega arith;
+    lookahead = let h = f .lookahead in let g = f .low in omega arith;
+    finite = l;
+    is = e;
+    first = λ c o n k. elim (ℕ-discrete c (a - 1)) [
+      | yes z ↦ (let w : getD need c 0 ≡ b = rw z (sym e) in rw (w, z) (record { fewer = omega arith; tie = λ y. omega arith }))
+      | no z ↦ (let h = f .first c (omega arith) n k in record { fewer = omega (arith, h .fewer); tie = λ y. omega arith })
+    ];
+  }

@@ -1,0 +1,4 @@
+-- The laws of the least window.
+pub mod Counting
+pub mod Choosing
+pub mod Meaning

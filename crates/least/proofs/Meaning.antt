@@ -1,0 +1,169 @@
+-- From the depths and the counted edges to the least window.
+use mathlib.Core.Path.{_≡_, sym, _∙_}
+use mathlib.Core.Logic.{_↔_}
+use mathlib.Core.List.{List}
+use Prim.Native.Nat.{ℕ, suc, _/_, _%_, _≤_, _<_}
+use native.Mathlib.Omega.{arith}
+use native.Mathlib.Decide.{decLt, decLe}
+use lib.ListN.{getD}
+use Rattle.mealy.specs.Setting.{Setting, Closed, flagged}
+use Rattle.mealy.specs.Window.{Works}
+use Rattle.mealy.specs.Order.{FewestLetters, Least}
+use Rattle.mealy.specs.Product.{back, forward, Level, pairs}
+use Rattle.mealy.proofs.Levels.{down, level-start, level-fall}
+use Rattle.mealy.proofs.Windows.{Ambiguous, works→unambiguous, unambiguous→works}
+use Rattle.mealy.proofs.LeastWindows.{fewest-letters, least-need, least-sides}
+use Rattle.mealy.proofs.Settling.{settled-by}
+use Rattle.coder.specs.Table.{machineOfCoder, Sound}
+use Rattle.coder.specs.declared.inner.tables.Coder.{Coder}
+use Rattle.chains.proofs.Entries.{entry-place}
+use Rattle.product.specs.Depth.{at, Depth, Depths}
+use Rattle.product.proofs.Entries.{source-at, entry-below, far-below, entries-edge, edge-entries}
+use Rattle.product.proofs.Depths.{pairs-high, start-decided, start-bounded}
+use Rattle.least.specs.Need.{Conflicting, backOf, forwardOf, Counted, Sources, Needs, Chosen}
+use Rattle.least.specs.declared.Window.{Window}
+
+-- a pair that is in level k has a depth above k, or is endless
+pub depth-above : (P : ℕ → Type 0) → ((k : ℕ) → P (suc k) → P k) → (x k : ℕ) → Depth P x → P k → x < 255 → k < x
+depth-above P fall x k d p l = elim (decLt k x) [ yes m ↦ m | no m ↦ absurd (d .falls l (down P fall {m = x} {k = k} (omega arith) p)) ]
+
+module _ (c : Coder) (flags : List ℕ) (sound : Sound c) (backs forwards : List (List ℕ)) (back-depths : Depths (flagged (machineOfCoder c) flags) back backs)
+    (forward-depths : Depths (flagged (machineOfCoder c) flags) forward forwards) where
+  abbrev S : Setting
+  S = flagged (machineOfCoder c) flags
+
+  state-high : (s : ℕ) → s < c .states → s < 16
+  state-high s l = omega (arith, sound .states-high)
+
+  next-state : (p : ℕ) → {q : ℕ} → Conflicting c p q → getD (c .next) p 0 < 16
+  next-state p k = state-high _ (far-below c sound forward p (k .entry₁))
+
+  swapped : {p q : ℕ} → Conflicting c p q → Conflicting c q p
+  swapped k = record { entry₁ = k .entry₂; entry₂ = k .entry₁; output = sym (k .output); conflict = λ e. k .conflict (sym e) }
+
+  back-depth : (p q : ℕ) → Conflicting c p q → Depth (λ k. Level S back k (p / 16) (q / 16)) (backOf backs p q)
+  back-depth p q k = back-depths .depth (p / 16) (q / 16) (state-high _ (entry-place _ _ p (k .entry₁) .state)) (state-high _ (entry-place _ _ q (k .entry₂) .state))
+
+  forward-depth : (p q : ℕ) → Conflicting c p q → Depth (λ k. Level S forward k (getD (c .next) p 0) (getD (c .next) q 0)) (forwardOf (c .next) forwards p q)
+  forward-depth p q k = forward-depths .depth _ _ (next-state p k) (next-state q (swapped k))
+
+  -- a conflicting edge of the product machine, by its entries
+  conflict-edge : (b a p q : ℕ) → Conflicting c p q → Level S back b (p / 16) (q / 16) → Level S forward a (getD (c .next) p 0) (getD (c .next) q 0) → Ambiguous S b a
+  conflict-edge b a p q k h g = record {
+    s = p / 16;
+    t = q / 16;
+    i = p % 16;
+    j = q % 16;
+    u = getD (c .next) p 0;
+    v = getD (c .next) q 0;
+    from = h;
+    edge = rw (source-at p (entry-below c sound p (k .entry₁)), source-at q (entry-below c sound q (k .entry₂))) at (entries-edge c sound p q (k .entry₁) (k .entry₂) (k .output));
+    conflict = k .conflict;
+    to = g;
+  }
+
+  -- and the entries of a conflicting edge between level sets
+  record EdgeEntries (b a : ℕ) : Type 0 where
+    p : ℕ
+    q : ℕ
+    conflicting : Conflicting c p q
+    level-back : Level S back b (p / 16) (q / 16)
+    level-forward : Level S forward a (getD (c .next) p 0) (getD (c .next) q 0)
+
+  conflict-entries : (b a : ℕ) → Ambiguous S b a → EdgeEntries b a
+  conflict-entries b a e =
+      let z = level-start S back b (e .s) (e .t) (e .from) in
+      let x = edge-entries c sound (e .s) (e .t) (e .i) (e .j) (e .u) (e .v) (z .0 .0) (z .1 .0) (e .edge) in
+      let ps = source-at (x .p) (entry-below c sound (x .p) (x .entry₁)) in
+      let qs = source-at (x .q) (entry-below c sound (x .q) (x .entry₂)) in
+      record {
+        p = x .p;
+        q = x .q;
+        conflicting = record {
+          entry₁ = x .entry₁;
+          entry₂ = x .entry₂;
+          output = x .output;
+          conflict = λ f. e .conflict (sym (x .letter₁) ∙ f ∙ x .letter₂);
+        };
+        level-back = rw (sym ps ∙ x .source₁, sym qs ∙ x .source₂) (e .from);
+        level-forward = rw (x .next₁, x .next₂) (e .to);
+      }
+
+  module _ (worst need : List ℕ) (counted : (p q : ℕ) → Conflicting c p q → Counted c backs forwards worst p q) (from : Sources c backs forwards worst) (needs : Needs worst need) where
+    -- what is needed was counted at an edge to a pair that stands at level a forward
+    record NeedSource (a : ℕ) : Type 0 where
+      p : ℕ
+      q : ℕ
+      conflicting : Conflicting c p q
+      past : a < forwardOf (c .next) forwards p q
+      back-is : backOf backs p q ≡ getD need a 0
+
+    need-source : (a : ℕ) → a < 255 → 0 < getD need a 0 → NeedSource a
+    need-source a l m =
+        let s = needs a l .source m in
+        let e = from (s .0) (omega (arith, s .3)) in
+        record { p = e .p; q = e .q; conflicting = e .conflicting; past = omega (arith, e .forward-is, s .1); back-is = e .back-is ∙ s .3 }
+
+    -- the letters that lookahead 136 needs are finite: where the forward levels have settled, only endless pairs stand
+    pub need-finite : getD need 136 0 < 255
+    need-finite = elim (decLt (getD need 136 0) 255) [
+      | yes l ↦ l
+      | no l ↦ (let n = need-source 136 (omega arith) (omega arith) in
+          let k = n .conflicting in
+          let d = forward-depth (n .p) (n .q) k in
+          let h = forward-depths .finite _ _ (next-state (n .p) k) (next-state (n .q) (swapped k)) in
+          absurd (counted (n .p) (n .q) k .finite (record {
+            back-endless = omega (arith, n .back-is, back-depth (n .p) (n .q) k .high);
+            forward-endless = elim (decLt (forwardOf (c .next) forwards (n .p) (n .q)) 255) [
+              | yes m ↦ absurd (omega (arith, n .past, h m, pairs-high (c .states) (sound .states-high)))
+              | no m ↦ omega (arith, d .high)
+            ];
+          })))
+    ]
+
+    -- the windows of lookahead a that work are those with at least the letters that it needs
+    pub need-is : Closed S → (b a : ℕ) → a ≤ 136 → Works S b a ↔ ((getD need a 0 < 255) × (getD need a 0 ≤ b))
+    need-is closed b a l = (to, from′)
+      where
+        to : Works S b a → (getD need a 0 < 255) × (getD need a 0 ≤ b)
+        to f = elim (decLt 0 (getD need a 0)) [
+          | no z ↦ omega arith
+          | yes m ↦ (let n = need-source a (omega arith) m in
+              let k = n .conflicting in
+              let d = back-depth (n .p) (n .q) k in
+              let stands : Level S back b (n .p / 16) (n .q / 16) → ⊥ = λ h.
+              works→unambiguous S b a f (conflict-edge b a (n .p) (n .q) k h (forward-depth (n .p) (n .q) k .stands a (n .past))) in
+              elim (decLt (getD need a 0) 255) [
+                | yes o ↦ (o, elim (decLe (getD need a 0) b) [ yes e ↦ e | no e ↦ absurd (stands (d .stands b (omega (arith, n .back-is)))) ])
+                | no o ↦ absurd (stands (d .endless (omega (arith, n .back-is, d .high)) b))
+              ])
+        ]
+
+        from′ : (getD need a 0 < 255) × (getD need a 0 ≤ b) → Works S b a
+        from′ m = unambiguous→works S closed b a (λ e.
+            let x = conflict-entries b a e in
+            let k = x .conflicting in
+            let f = forwardOf (c .next) forwards (x .p) (x .q) in
+            let df = forward-depth (x .p) (x .q) k in
+            let past : a < f = elim (decLt f 255) [
+              | yes n ↦ depth-above (λ k. Level S forward k _ _) (λ k. level-fall S forward k _ _) f a df (x .level-forward) n
+              | no n ↦ omega arith
+            ] in
+            let u = needs a (omega arith) .upper f past (omega (arith, df .high)) in
+            let w = counted (x .p) (x .q) k .least in
+            let n : backOf backs (x .p) (x .q) < 255 = omega (arith, u, w, m .0) in
+            omega (arith, u, w, m .1, depth-above (λ k. Level S back k _ _) (λ k. level-fall S back k _ _) (backOf backs (x .p) (x .q)) b (back-depth (x .p) (x .q) k) (x .level-back) n))
+
+    -- the first of the candidates is the least window among all, whatever their sides, and its own are small
+    pub least-window : Closed S → (w : Window) → Chosen need w → Least FewestLetters S (w .before) (w .after)
+    least-window closed w h =
+        rw (h .is)
+        (least-need fewest-letters S closed 136
+        (settled-by S (start-decided c back flags sound) (start-bounded c back flags sound) forward 136 (pairs-high (c .states) (sound .states-high)))
+        255 (λ a. getD need a 0) (need-is closed) (w .after) (h .lookahead) (h .finite)
+        (λ a l m. rw (h .is) at (h .first a l m)))
+
+  pub sides-small : Closed S → (b a : ℕ) → Least FewestLetters S b a → (b ≤ pairs (c .states)) × (a ≤ pairs (c .states))
+  sides-small closed =
+      let settled = settled-by S (start-decided c back flags sound) (start-bounded c back flags sound) in
+      least-sides S closed (pairs (c .states)) (pairs (c .states)) (settled back (pairs (c .states)) (omega arith)) (settled forward (pairs (c .states)) (omega arith))

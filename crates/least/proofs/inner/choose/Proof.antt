@@ -1,0 +1,79 @@
+use Prim.Native.Nat.{_≤_}
+use Rattle.least.proofs.Choosing.{FirstFrom, first-start, first-stays, first-changes}
+use borrow.Author.Needs.{needs}
+use native.Mathlib.Omega.{arith}
+use Rattle.least.proofs.inner.choose.Statement.{statement}
+use Rattle.least.proofs.inner.choose.Tie as tie
+
+abbrev Inv-loop : tie.InvT-loop
+Inv-loop need before₀ after₀ a₀ before after a = (a ≤ 136) × FirstFrom need a before after
+
+abbrev μ-loop : tie.MeasureT-loop
+μ-loop need before₀ after₀ a₀ before after a = a
+
+element-copy-out-number : tie.Need-element-copy-out-number Inv-loop μ-loop
+element-copy-out-number c = search needs
+
+number-requires : tie.Need-number-requires Inv-loop μ-loop
+number-requires c κs = search needs
+
+loop-holds : tie.Need-loop-holds Inv-loop μ-loop
+loop-holds c = (search needs, first-start _ _ (c .number .ensures .0) (c .before .before .pre))
+
+sub-a : tie.Need-sub-a Inv-loop μ-loop
+sub-a c = search needs
+
+element-copy-out-number-2 : tie.Need-element-copy-out-number-2 Inv-loop μ-loop
+element-copy-out-number-2 c = search needs
+
+number-requires-2 : tie.Need-number-requires-2 Inv-loop μ-loop
+number-requires-2 c κs = search needs
+
+add-if2 : tie.Need-add-if2 Inv-loop μ-loop
+add-if2 c = search needs
+
+add-if2-2 : tie.Need-add-if2-2 Inv-loop μ-loop
+add-if2-2 c = search needs
+
+loop-less : tie.Need-loop-less Inv-loop μ-loop
+loop-less c = search needs
+
+loop-again : tie.Need-loop-again Inv-loop μ-loop
+loop-again c = (search needs, first-changes (c .before .before .before .before .before .loop .inv .1) (omega arith) (c .before .before .number2 .ensures .0) (omega arith) (omega arith))
+
+loop-less-2 : tie.Need-loop-less-2 Inv-loop μ-loop
+loop-less-2 c = search needs
+
+loop-again-2 : tie.Need-loop-again-2 Inv-loop μ-loop
+loop-again-2 c = (search needs, first-stays (c .before .before .before .before .before .loop .inv .1) (omega arith) (c .before .before .number2 .ensures .0) (λ l. omega arith))
+
+loop-less-3 : tie.Need-loop-less-3 Inv-loop μ-loop
+loop-less-3 c = search needs
+
+loop-again-3 : tie.Need-loop-again-3 Inv-loop μ-loop
+loop-again-3 c = (search needs, first-stays (c .before .before .before .before .loop .inv .1) (omega arith) (c .before .number2 .ensures .0) (λ l. absurd (omega arith)))
+
+returns : tie.Need-returns Inv-loop μ-loop
+returns c = let f = c .before .loop .inv .1 in record { lookahead = f .lookahead; finite = rw (f .is) at (f .finite); is = f .is; first = λ a l m. f .first a (omega arith) l m }
+
+pub choose-spec : {M : Type 1} → statement M
+choose-spec =
+    tie.close
+    (tie.spec
+    Inv-loop
+    μ-loop
+    element-copy-out-number
+    number-requires
+    loop-holds
+    sub-a
+    element-copy-out-number-2
+    number-requires-2
+    add-if2
+    add-if2-2
+    loop-less
+    loop-again
+    loop-less-2
+    loop-again-2
+    loop-less-3
+    loop-again-3
+    returns)

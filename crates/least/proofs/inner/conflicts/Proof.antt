@@ -1,0 +1,83 @@
+use native.Mathlib.Numerals.{add-one}
+use Rattle.coder.specs.Table.{Sound}
+use Prim.Native.Nat.{_≤_, _-_}
+use Rattle.least.proofs.Counting.{RowsTo, rows-start, rows-skip, rows-more, rows-found, rows-end, row-of}
+use Rattle.coder.proofs.Tables.{output-high}
+use borrow.Author.Needs.{needs}
+use native.Mathlib.Omega.{arith}
+use Rattle.least.proofs.inner.conflicts.Statement.{statement}
+use Rattle.least.proofs.inner.conflicts.Tie as tie
+
+abbrev Inv-loop : tie.InvT-loop
+Inv-loop last previous backs forwards worst₀ c inputs end p₀ worst p =
+    (p ≤ end) × ((s : Sound c) → RowsTo c backs forwards s worst₀ p worst)
+
+abbrev μ-loop : tie.MeasureT-loop
+μ-loop last previous backs forwards worst₀ c inputs end p₀ worst p = end - p
+
+mul-end : tie.Need-mul-end Inv-loop μ-loop
+mul-end c = omega (arith, c .pre .sound .states-high)
+
+loop-holds : tie.Need-loop-holds Inv-loop μ-loop
+loop-holds c = (omega arith, λ s. rows-start _ _ _ s (c .pre .size))
+
+add-p : tie.Need-add-p Inv-loop μ-loop
+add-p c = search needs
+
+element-copy-out-number : tie.Need-element-copy-out-number Inv-loop μ-loop
+element-copy-out-number c = omega (arith, c .before .before .before .pre .sound .states-high)
+
+number-requires : tie.Need-number-requires Inv-loop μ-loop
+number-requires c κs = search needs
+
+mul-wide : tie.Need-mul-wide Inv-loop μ-loop
+mul-wide c = search needs
+
+element-copy-out-wide : tie.Need-element-copy-out-wide Inv-loop μ-loop
+element-copy-out-wide c = omega (arith, c .number .ensures .0, output-high _ (c .before .before .before .before .before .pre .sound) (c .before .before .before .before .loop .p), c .before .before .before .before .before .pre .sound .outputs-high)
+
+wide-requires : tie.Need-wide-requires Inv-loop μ-loop
+wide-requires c κs = search needs
+
+row-requires : tie.Need-row-requires Inv-loop μ-loop
+row-requires c κs = record { c = _; of = (row-of _ (c .before .before .before .before .before .before .before .before .before .before .args .backs .now) (c .before .before .before .before .before .before .before .before .before .before .args .forwards .now) (c .before .before .before .before .before .before .before .before .before .before .pre .sound) (c .before .before .before .before .before .before .before .before .before .before .pre) (omega arith) (omega arith) (c .before .before .before .before .before .number .ensures .0) (c .before .before .before .wide .ensures)); size = c .before .before .before .before .before .before .before .before .before .loop .inv .1 (c .before .before .before .before .before .before .before .before .before .before .pre .sound) .size }
+
+returns : tie.Need-returns Inv-loop μ-loop
+returns c = rows-found _ _ _ (c .before .before .before .before .before .before .before .before .before .before .before .before .pre .sound) (c .before .before .before .before .before .before .before .before .before .before .before .loop .inv .1 (c .before .before .before .before .before .before .before .before .before .before .before .before .pre .sound)) (c .before .row .ensures _ (row-of _ (c .before .before .before .before .before .before .before .before .before .before .before .before .args .backs .now) (c .before .before .before .before .before .before .before .before .before .before .before .before .args .forwards .now) (c .before .before .before .before .before .before .before .before .before .before .before .before .pre .sound) (c .before .before .before .before .before .before .before .before .before .before .before .before .pre) (omega arith) (omega arith) (c .before .before .before .before .before .before .before .number .ensures .0) (c .before .before .before .before .before .wide .ensures))) (add-one _) (omega (arith, c .if2 .taken))
+
+loop-less : tie.Need-loop-less Inv-loop μ-loop
+loop-less c = omega arith
+
+loop-again : tie.Need-loop-again Inv-loop μ-loop
+loop-again c = (omega arith, λ s. rows-more _ _ _ s (c .before .before .before .before .before .before .before .before .before .before .before .loop .inv .1 s) (c .before .row .ensures _ (row-of _ (c .before .before .before .before .before .before .before .before .before .before .before .before .args .backs .now) (c .before .before .before .before .before .before .before .before .before .before .before .before .args .forwards .now) (c .before .before .before .before .before .before .before .before .before .before .before .before .pre .sound) (c .before .before .before .before .before .before .before .before .before .before .before .before .pre) (omega arith) (omega arith) (c .before .before .before .before .before .before .before .number .ensures .0) (c .before .before .before .before .before .wide .ensures))) (omega (arith, c .if2 .left)))
+
+loop-less-2 : tie.Need-loop-less-2 Inv-loop μ-loop
+loop-less-2 c = omega arith
+
+loop-again-2 : tie.Need-loop-again-2 Inv-loop μ-loop
+loop-again-2 c = (omega arith, λ s. rows-skip _ _ _ s (c .before .before .loop .inv .1 s) (omega arith))
+
+returns-2 : tie.Need-returns-2 Inv-loop μ-loop
+returns-2 c = rows-end _ _ _ (c .before .before .pre .sound) (c .before .loop .inv .1 (c .before .before .pre .sound)) (omega arith)
+
+pub conflicts-spec : {M : Type 1} → statement M
+conflicts-spec =
+    tie.close
+    (tie.spec
+    Inv-loop
+    μ-loop
+    mul-end
+    loop-holds
+    add-p
+    element-copy-out-number
+    number-requires
+    mul-wide
+    element-copy-out-wide
+    wide-requires
+    row-requires
+    returns
+    loop-less
+    loop-again
+    loop-less-2
+    loop-again-2
+    returns-2)

@@ -1,0 +1,74 @@
+use mathlib.Core.Path.{_≡_}
+use Prim.Native.Nat.{_≤_}
+use Rattle.coder.specs.declared.inner.tables.Coder.{Coder}
+use Rattle.least.specs.Need.{RowOf}
+use Rattle.least.proofs.Counting.{RowAt, row-high, row-start, row-less, row-apart, row-counted, row-found, row-end, row-asked}
+use borrow.Author.Needs.{needs}
+use native.Mathlib.Omega.{arith}
+use Rattle.least.proofs.inner.row.Statement.{statement}
+use Rattle.least.proofs.inner.row.Tie as tie
+
+abbrev Inv-loop : tie.InvT-loop
+Inv-loop previous next backs forwards p from worst₀ y₀ worst y = (y ≤ 256) × ((c : Coder) → (r : RowOf c previous next p from) → RowAt c backs forwards previous next p from r worst₀ y worst)
+
+abbrev μ-loop : tie.MeasureT-loop
+μ-loop previous next backs forwards p from worst₀ y₀ worst y = y
+
+loop-holds : tie.Need-loop-holds Inv-loop μ-loop
+loop-holds c = (row-high _ (c .args .backs .now) (c .args .forwards .now) _ _ _ _ (c .pre .of), λ k r. row-start _ _ _ _ _ _ _ r (c .pre .size))
+
+sub-q : tie.Need-sub-q Inv-loop μ-loop
+sub-q c = search needs
+
+mul-wide : tie.Need-mul-wide Inv-loop μ-loop
+mul-wide c = search needs
+
+element-copy-out-wide : tie.Need-element-copy-out-wide Inv-loop μ-loop
+element-copy-out-wide c = search needs
+
+wide-requires : tie.Need-wide-requires Inv-loop μ-loop
+wide-requires c κs = search needs
+
+conflict-requires : tie.Need-conflict-requires Inv-loop μ-loop
+conflict-requires c κs = search needs
+
+count-requires : tie.Need-count-requires Inv-loop μ-loop
+count-requires c κs = row-asked _ _ _ _ _ _ _ _ (c .before .before .before .before .before .before .loop .inv .1 _ (c .before .before .before .before .before .before .before .pre .of)) (omega arith)
+
+returns : tie.Need-returns Inv-loop μ-loop
+returns c = λ k r. row-found _ _ _ _ _ _ _ r (c .before .before .before .before .before .before .before .before .loop .inv .1 k r) (omega arith) (c .before .before .before .before .conflict .ensures .yes′ (c .before .before .before .if1 .taken)) (c .before .count .ensures) (c .if2 .taken)
+
+loop-less : tie.Need-loop-less Inv-loop μ-loop
+loop-less c = row-less _ _ _ _ _ _ _ _ (c .before .before .before .before .before .before .before .before .loop .inv .1 _ (c .before .before .before .before .before .before .before .before .before .pre .of)) (omega arith) (c .before .before .before .before .before .wide .ensures)
+
+loop-again : tie.Need-loop-again Inv-loop μ-loop
+loop-again c = (omega (arith, row-less _ _ _ _ _ _ _ _ (c .before .before .before .before .before .before .before .before .loop .inv .1 _ (c .before .before .before .before .before .before .before .before .before .pre .of)) (omega arith) (c .before .before .before .before .before .wide .ensures)), λ k r. row-counted _ _ _ _ _ _ _ r (c .before .before .before .before .before .before .before .before .loop .inv .1 k r) (omega arith) (c .before .before .before .before .conflict .ensures .yes′ (c .before .before .before .if1 .taken)) (c .before .count .ensures) (c .if2 .left) (c .before .before .before .before .before .wide .ensures))
+
+loop-less-2 : tie.Need-loop-less-2 Inv-loop μ-loop
+loop-less-2 c = row-less _ _ _ _ _ _ _ _ (c .before .before .before .before .before .loop .inv .1 _ (c .before .before .before .before .before .before .pre .of)) (omega arith) (c .before .before .wide .ensures)
+
+loop-again-2 : tie.Need-loop-again-2 Inv-loop μ-loop
+loop-again-2 c = (omega (arith, row-less _ _ _ _ _ _ _ _ (c .before .before .before .before .before .loop .inv .1 _ (c .before .before .before .before .before .before .pre .of)) (omega arith) (c .before .before .wide .ensures)), λ k r. row-apart _ _ _ _ _ _ _ r (c .before .before .before .before .before .loop .inv .1 k r) (omega arith) (c .before .before .wide .ensures) (c .before .conflict .ensures .no′ (c .if1 .left)))
+
+returns-2 : tie.Need-returns-2 Inv-loop μ-loop
+returns-2 c = λ k r. let e : c .before .loop .y ≡ 0 = omega arith in row-end _ _ _ _ _ _ _ r (rw e at (c .before .loop .inv .1 k r))
+
+pub row-spec : {M : Type 1} → statement M
+row-spec =
+    tie.close
+    (tie.spec
+    Inv-loop
+    μ-loop
+    loop-holds
+    sub-q
+    mul-wide
+    element-copy-out-wide
+    wide-requires
+    conflict-requires
+    count-requires
+    returns
+    loop-less
+    loop-again
+    loop-less-2
+    loop-again-2
+    returns-2)

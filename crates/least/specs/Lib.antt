@@ -1,0 +1,2 @@
+-- What the contracts of the least window cite.
+pub mod Need

@@ -1,0 +1,18 @@
+use Rattle.mealy.specs.Product.{back}
+use mathlib.Core.Path.{refl}
+use borrow.Author.Needs.{needs}
+use borrow.Author.Needs.{needs}
+use Rattle.product.proofs.inner.back.Statement.{statement}
+use Rattle.product.proofs.inner.back.Tie as tie
+
+source-requires : tie.Need-source-requires
+source-requires c κs = search needs
+
+along-requires : tie.Need-along-requires
+along-requires c κs = record { d = back; sound = c .before .before .before .before .before .before .pre .0; near-is = refl; far-is = c .before .before .before .before .before .source .ensures; kept = c .before .before .before .before .before .before .pre .1 }
+
+returns : tie.Need-returns
+returns c = c .along .ensures back refl (c .before .before .before .before .before .before .source .ensures)
+
+pub back-spec : {M : Type 1} → statement M
+back-spec = tie.close (tie.spec source-requires along-requires returns)

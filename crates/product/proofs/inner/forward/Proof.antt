@@ -1,0 +1,18 @@
+use Rattle.mealy.specs.Product.{forward}
+use mathlib.Core.Path.{refl}
+use borrow.Author.Needs.{needs}
+use borrow.Author.Needs.{needs}
+use Rattle.product.proofs.inner.forward.Statement.{statement}
+use Rattle.product.proofs.inner.forward.Tie as tie
+
+source-requires : tie.Need-source-requires
+source-requires c κs = search needs
+
+along-requires : tie.Need-along-requires
+along-requires c κs = record { d = forward; sound = c .before .before .before .before .before .before .pre .0; near-is = c .before .before .before .before .before .source .ensures; far-is = refl; kept = c .before .before .before .before .before .before .pre .1 }
+
+returns : tie.Need-returns
+returns c = c .along .ensures forward (c .before .before .before .before .before .before .source .ensures) refl
+
+pub forward-spec : {M : Type 1} → statement M
+forward-spec = tie.close (tie.spec source-requires along-requires returns)

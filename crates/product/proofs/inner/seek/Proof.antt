@@ -1,0 +1,105 @@
+use Prim.Native.Nat.{ℕ, _≤_, _+_, _*_}
+use Rattle.mealy.specs.Product.{Direction}
+use Rattle.coder.specs.declared.inner.tables.Coder.{Coder}
+use Rattle.product.specs.Entries.{ArraysOf}
+use Rattle.product.specs.Rounds.{Above, Seeking}
+use Rattle.coder.proofs.Refusals.{via}
+use Rattle.product.proofs.Seeking.{first-less, second-less, last-high, row-step, far-first, far-second, passed, taken, seek-none}
+use borrow.Author.Needs.{needs}
+use native.Mathlib.Omega.{arith}
+use Rattle.product.proofs.inner.seek.Statement.{statement}
+use Rattle.product.proofs.inner.seek.Tie as tie
+
+abbrev Inv-loop : tie.InvT-loop
+Inv-loop last previous output far d v k x₀ y₀ x y =
+    (x ≤ 256) × (y ≤ 256) × ((c : Coder) (way : Direction) (u : ℕ) → ArraysOf c way last previous output far → Seeking c way (Above d k) u v x₀ y₀ → Seeking c way (Above d k) u v x y)
+
+abbrev μ-loop : tie.MeasureT-loop
+μ-loop last previous output far d v k x₀ y₀ x y = 257 * x + y
+
+loop-holds : tie.Need-loop-holds Inv-loop μ-loop
+loop-holds c = (c .pre .seeking .on₁ .high, c .pre .seeking .on₂ .high, λ c way u a s. s)
+
+sub-wide : tie.Need-sub-wide Inv-loop μ-loop
+sub-wide c = search needs
+
+mul-wide : tie.Need-mul-wide Inv-loop μ-loop
+mul-wide c = search needs
+
+element-copy-out-wide : tie.Need-element-copy-out-wide Inv-loop μ-loop
+element-copy-out-wide c = search needs
+
+wide-requires : tie.Need-wide-requires Inv-loop μ-loop
+wide-requires c κs = search needs
+
+mul-wide-2 : tie.Need-mul-wide-2 Inv-loop μ-loop
+mul-wide-2 c = omega (arith, c .before .before .before .before .before .pre .seeking .column)
+
+element-copy-out-wide-2 : tie.Need-element-copy-out-wide-2 Inv-loop μ-loop
+element-copy-out-wide-2 c = omega (arith, c .before .before .before .before .before .pre .seeking .column)
+
+wide-requires-2 : tie.Need-wide-requires-2 Inv-loop μ-loop
+wide-requires-2 c κs = search needs
+
+loop-less : tie.Need-loop-less Inv-loop μ-loop
+loop-less c = let p = c .before .before .before .before .before .before .before .pre in let s = c .before .before .before .before .before .before .loop .inv .2 _ _ _ (p .arrays) (p .seeking) in omega (arith, first-less (p .arrays) s (c .before .before .before .before .before .loop-test .taken) (c .before .before .wide .ensures), last-high (p .arrays) s (c .wide2 .ensures))
+
+loop-again : tie.Need-loop-again Inv-loop μ-loop
+loop-again c = let p = c .before .before .before .before .before .before .before .pre in let i = c .before .before .before .before .before .before .loop .inv in let s = i .2 _ _ _ (p .arrays) (p .seeking) in (omega (arith, first-less (p .arrays) s (c .before .before .before .before .before .loop-test .taken) (c .before .before .wide .ensures)), last-high (p .arrays) s (c .wide2 .ensures), λ k way u a t. row-step a (i .2 k way u a t) (c .before .before .before .before .before .loop-test .taken) (omega arith) (c .before .before .wide .ensures) (c .wide2 .ensures))
+
+sub-p : tie.Need-sub-p Inv-loop μ-loop
+sub-p c = search needs
+
+sub-q : tie.Need-sub-q Inv-loop μ-loop
+sub-q c = search needs
+
+stands-requires : tie.Need-stands-requires Inv-loop μ-loop
+stands-requires c κs = let p = c .before .before .before .pre in let s = c .before .before .loop .inv .2 _ _ _ (p .arrays) (p .seeking) in (omega arith, omega arith, far-first (p .arrays) s (omega arith), far-second (p .arrays) s (omega arith))
+
+returns : tie.Need-returns Inv-loop μ-loop
+returns c = λ k way u a t. taken a (c .before .before .before .before .before .args .d .now) (c .before .before .before .before .before .args .k) (c .before .before .before .before .loop .inv .2 k way u a t) (omega arith) (omega arith) (via (c .before .stands .ensures) (c .if2 .taken))
+
+mul-wide-3 : tie.Need-mul-wide-3 Inv-loop μ-loop
+mul-wide-3 c = search needs
+
+element-copy-out-wide-3 : tie.Need-element-copy-out-wide-3 Inv-loop μ-loop
+element-copy-out-wide-3 c = search needs
+
+wide-requires-3 : tie.Need-wide-requires-3 Inv-loop μ-loop
+wide-requires-3 c κs = search needs
+
+loop-less-2 : tie.Need-loop-less-2 Inv-loop μ-loop
+loop-less-2 c = let p = c .before .before .before .before .before .before .before .pre in let s = c .before .before .before .before .before .before .loop .inv .2 _ _ _ (p .arrays) (p .seeking) in omega (arith, second-less (p .arrays) s (omega arith) (c .wide3 .ensures))
+
+loop-again-2 : tie.Need-loop-again-2 Inv-loop μ-loop
+loop-again-2 c = let p = c .before .before .before .before .before .before .before .pre in let i = c .before .before .before .before .before .before .loop .inv in let s = i .2 _ _ _ (p .arrays) (p .seeking) in (i .0, omega (arith, second-less (p .arrays) s (omega arith) (c .wide3 .ensures)), λ k way u a t. passed a (c .before .before .before .before .before .before .before .args .d .now) (c .before .before .before .before .before .before .before .args .k) (i .2 k way u a t) (omega arith) (omega arith) (via (c .before .before .before .stands .ensures) (c .before .before .if2 .left)) (c .wide3 .ensures))
+
+returns-2 : tie.Need-returns-2 Inv-loop μ-loop
+returns-2 c = λ k way u a t. seek-none k way (a .sound) _ (c .before .loop .inv .2 k way u a t) (omega arith)
+
+pub seek-spec : {M : Type 1} → statement M
+seek-spec =
+    tie.close
+    (tie.spec
+    Inv-loop
+    μ-loop
+    loop-holds
+    sub-wide
+    mul-wide
+    element-copy-out-wide
+    wide-requires
+    mul-wide-2
+    element-copy-out-wide-2
+    wide-requires-2
+    loop-less
+    loop-again
+    sub-p
+    sub-q
+    stands-requires
+    returns
+    mul-wide-3
+    element-copy-out-wide-3
+    wide-requires-3
+    loop-less-2
+    loop-again-2
+    returns-2)

@@ -1,0 +1,4 @@
+-- What the contracts of the depth squares cite.
+pub mod Depth
+pub mod Entries
+pub mod Rounds

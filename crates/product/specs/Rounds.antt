@@ -1,0 +1,153 @@
+-- The rounds that find the depths, with for each pair the edge that keeps it standing.
+use Prim.Native.Nat.{ℕ, suc, _+_, _*_, _≤_, _<_}
+use mathlib.Core.Path.{_≡_}
+use mathlib.Core.Bool.{Bool, true, false}
+use mathlib.Core.List.{List}
+use lib.ListN.{length, getD}
+use lib.Dec.{ltb, eqb}
+use Rattle.mealy.specs.Setting.{flagged}
+use Rattle.mealy.specs.Product.{Direction, Level}
+use Rattle.coder.specs.Refusal.{pick, both}
+use Rattle.coder.specs.Table.{machineOfCoder, Sound}
+use Rattle.coder.specs.declared.inner.tables.Coder.{Coder}
+use Rattle.chains.specs.Chain.{hasKey}
+use Rattle.product.specs.Depth.{at, Square, Depths}
+use Rattle.product.specs.Entries.{nearEnds, farEnds, far, Joins, ArraysOf}
+use Rattle.product.specs.declared.inner.Edge.{Edge}
+
+-- x is the number of an entry whose near end is u, counted from 1, or 0
+pub record OnChain (c : Coder) (d : Direction) (u x : ℕ) : Type 0 where
+  pub high : x ≤ 256
+  pub entry : (p : ℕ) → x ≡ suc p → hasKey (nearEnds d c) (c .states) (c .inputs) u p ≡ true
+
+-- of the edges of (u, v), those whose far ends are in P stand at the edge x y or after it, in the order in which they are passed
+pub record NoneBefore (c : Coder) (d : Direction) (P : ℕ → ℕ → Type 0) (u v x y : ℕ) : Type 0 where
+  pub first : (p q : ℕ) → Joins c d u v p q → P (far d c p) (far d c q) → suc p ≤ x
+  pub second : (p q : ℕ) → Joins c d u v p q → P (far d c p) (far d c q) → suc p ≡ x → suc q ≤ y
+
+-- the search for an edge of (u, v) that stands has come to the edge x y
+pub record Seeking (c : Coder) (d : Direction) (P : ℕ → ℕ → Type 0) (u v x y : ℕ) : Type 0 where
+  pub column : v < 16
+  pub on₁ : OnChain c d u x
+  pub on₂ : OnChain c d v y
+  pub none-before : NoneBefore c d P u v x y
+
+-- it has found one, or there is none
+pub record Sought (c : Coder) (d : Direction) (P : ℕ → ℕ → Type 0) (u v : ℕ) (e : Edge) : Type 0 where
+  pub seeking : Seeking c d P u v (e .x) (e .y)
+  pub found : 0 < e .x → 0 < e .y
+  pub edge : (p q : ℕ) → e .x ≡ suc p → e .y ≡ suc q → Joins c d u v p q × P (far d c p) (far d c q)
+
+-- the pairs of depth above k
+abbrev pub Above : List (List ℕ) → ℕ → ℕ → ℕ → Type 0
+Above square k s t = k < at square s t
+
+-- what `seek` asks: its arrays are those of some coder in some direction, and it begins at an edge of some pair
+pub record SeekAsked (last previous output far′ : List ℕ) (square : List (List ℕ)) (k : ℕ) (v : ℕ) (e : Edge) : Type 0 where
+  pub c : Coder
+  pub d : Direction
+  pub u : ℕ
+  pub arrays : ArraysOf c d last previous output far′
+  pub seeking : Seeking c d (Above square k) u v (e .x) (e .y)
+
+-- The depth x of a pair is right up to level k: at each of these levels the pair stands exactly below x, and x is above k only
+-- as 255.
+pub record RightTo (P : ℕ → Type 0) (k x : ℕ) : Type 0 where
+  pub stands : (m : ℕ) → m ≤ k → m < x → P m
+  pub below : (m : ℕ) → m ≤ k → P m → m < x
+  pub shape : x < 255 → x ≤ k
+  pub high : x ≤ 255
+
+-- the level sets of the coder c with the start states of the flags
+abbrev pub LevelOf : Coder → Direction → List ℕ → ℕ → ℕ → ℕ → Type 0
+LevelOf c d flags = Level (flagged (machineOfCoder c) flags) d
+
+-- The edges x y kept for each pair, at place 16 u + v of two arrays.
+pub record Kept (xs ys : List ℕ) : Type 0 where
+  pub firsts : length xs ≡ 256
+  pub seconds : length ys ≡ 256
+
+abbrev pub edgeAt : List ℕ → List ℕ → ℕ → ℕ → Edge
+edgeAt xs ys u v = record { x = getD xs (16 * u + v) 0; y = getD ys (16 * u + v) 0 }
+
+-- Before round k: every depth is right up to level k, and the search for an edge of each pair that stands has passed over no edge to
+-- a pair of level k.
+pub record Before (c : Coder) (d : Direction) (flags : List ℕ) (k : ℕ) (square : List (List ℕ)) (xs ys : List ℕ) : Type 0 where
+  pub shape : Square square
+  pub kept : Kept xs ys
+  pub right : (u v : ℕ) → u < 16 → v < 16 → RightTo (λ m. LevelOf c d flags m u v) k (at square u v)
+  pub seeking :
+      (u v : ℕ) → u < 16 → v < 16 → at square u v ≡ 255 →
+      Seeking c d (LevelOf c d flags k) u v (edgeAt xs ys u v .x) (edgeAt xs ys u v .y)
+
+-- After it: every depth is right up to level k + 1, and each pair that stands has an edge to a pair of level k.
+pub record After (c : Coder) (d : Direction) (flags : List ℕ) (k : ℕ) (square : List (List ℕ)) (xs ys : List ℕ) : Type 0 where
+  pub shape : Square square
+  pub kept : Kept xs ys
+  pub right : (u v : ℕ) → u < 16 → v < 16 → RightTo (λ m. LevelOf c d flags m u v) (suc k) (at square u v)
+  pub sought : (u v : ℕ) → u < 16 → v < 16 → at square u v ≡ 255 → Sought c d (LevelOf c d flags k) u v (edgeAt xs ys u v)
+  pub edge : (u v : ℕ) → u < 16 → v < 16 → at square u v ≡ 255 → 0 < edgeAt xs ys u v .x
+
+-- some pair has the depth x
+pub record Some (square : List (List ℕ)) (x : ℕ) : Type 0 where
+  pub u : ℕ
+  pub v : ℕ
+  pub row : u < 16
+  pub column : v < 16
+  pub is : at square u v ≡ x
+
+-- whether a round gave some pair its depth
+pub record Changed (square : List (List ℕ)) (k : ℕ) (r : Bool) : Type 0 where
+  pub yes′ : r ≡ true → Some square (suc k)
+  pub no′ : r ≡ false → Some square (suc k) → ⊥
+
+pub record RoundAsked (last previous output far′ : List ℕ) (states k : ℕ) (square : List (List ℕ)) (xs ys : List ℕ) : Type 0 where
+  pub c : Coder
+  pub d : Direction
+  pub flags : List ℕ
+  pub arrays : ArraysOf c d last previous output far′
+  pub states-is : states ≡ c .states
+  pub before : Before c d flags k square xs ys
+  pub level : k < 254
+
+-- what a round does
+pub record Rounded (c : Coder) (d : Direction) (flags : List ℕ) (k : ℕ) (square : List (List ℕ)) (xs ys : List ℕ) (r : Bool) : Type 0 where
+  pub after : After c d flags k square xs ys
+  pub changed : Changed square k r
+
+-- whether both states of a pair are start states
+abbrev pub startFlag : ℕ → List ℕ → ℕ → Bool
+startFlag n flags s = both (ltb s n) (eqb (getD flags s 0) 1)
+
+-- Before the first round: depth 255 for the pairs of start states, 0 for the others.
+pub record Started (n : ℕ) (flags : List ℕ) (square : List (List ℕ)) : Type 0 where
+  pub shape : Square square
+  pub is : (u v : ℕ) → u < 16 → v < 16 → at square u v ≡ pick (both (startFlag n flags u) (startFlag n flags v)) 255 0
+
+-- the first edge of each pair
+pub record FirstEdges (last xs ys : List ℕ) : Type 0 where
+  pub kept : Kept xs ys
+  pub first : (u v : ℕ) → u < 16 → v < 16 → edgeAt xs ys u v .x ≡ getD last u 0
+  pub second : (u v : ℕ) → u < 16 → v < 16 → edgeAt xs ys u v .y ≡ getD last v 0
+
+-- each endless pair has an edge to an endless pair
+pub record EndlessEdges (c : Coder) (d : Direction) (square : List (List ℕ)) (xs ys : List ℕ) : Type 0 where
+  pub kept : Kept xs ys
+  pub first : (u v : ℕ) → u < 16 → v < 16 → at square u v ≡ 255 → 0 < edgeAt xs ys u v .x
+  pub second : (u v : ℕ) → u < 16 → v < 16 → at square u v ≡ 255 → 0 < edgeAt xs ys u v .y
+  pub high : (u v : ℕ) → u < 16 → v < 16 → at square u v ≡ 255 → (edgeAt xs ys u v .x ≤ 256) × (edgeAt xs ys u v .y ≤ 256)
+  pub edge :
+      (u v p q : ℕ) → u < 16 → v < 16 → at square u v ≡ 255 → edgeAt xs ys u v .x ≡ suc p → edgeAt xs ys u v .y ≡ suc q →
+      Joins c d u v p q × (at square (far d c p) (far d c q) ≡ 255)
+
+-- the depths of a direction, with the edges that keep the endless pairs standing
+pub record DepthsFound (c : Coder) (d : Direction) (flags : List ℕ) (square : List (List ℕ)) (xs ys : List ℕ) : Type 0 where
+  pub depths : Depths (flagged (machineOfCoder c) flags) d square
+  pub edges : EndlessEdges c d square xs ys
+
+pub record AlongAsked (c : Coder) (near′ far′ xs ys : List ℕ) : Type 0 where
+  pub d : Direction
+  pub sound : Sound c
+  pub near-is : near′ ≡ nearEnds d c
+  pub far-is : far′ ≡ farEnds d c
+  pub kept : Kept xs ys

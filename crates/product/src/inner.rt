@@ -1,0 +1,250 @@
+// No public calls: the depth squares of the product machine, on the tables of a checked coder. Some of these have a `requires`.
+//
+// One code for both directions: `far` has the far end of each entry, and `last` and `previous` chain the entries by their near ends.
+ghost use mathlib.Core.Path.{_≡_};
+ghost use mathlib.Core.Bool.{Bool};
+ghost use Prim.Native.Nat.{ℕ, _+_, _<_, _≤_};
+ghost use lib.ListN.{getD};
+ghost use lib.Dec.{ltb, eqb};
+ghost use Rattle.mealy.specs.Product.{Direction, back as backward, forward as onward};
+ghost use Rattle.coder.specs.Table.{Sound};
+ghost use Rattle.coder.specs.Refusal.{both};
+ghost use Rattle.coder.specs.declared.inner.tables.Coder.{Coder as CoderOf};
+ghost use Rattle.product.specs.Depth.{at};
+ghost use Rattle.product.specs.Entries.{sources, nearEnds, farEnds, ArraysOf};
+ghost use Rattle.product.specs.Rounds.{Above, Seeking, Sought, SeekAsked, RoundAsked, Before, Rounded, startFlag, Started, Kept, FirstEdges, AlongAsked, DepthsFound};
+ghost use mathlib.Core.List.{List};
+use coder::inner::bytes::number;
+use coder::inner::tables::Coder;
+
+// The numbers of two entries, counted from 1: an edge of the product machine where both are above 0.
+pub struct Edge {
+    pub x: usize,
+    pub y: usize,
+}
+
+fn wide(x: u16) -> usize
+    ensures { λ r. ⌜ r ≡ x ⌝ }
+{
+    x as usize
+}
+
+// The state of the entry at each place.
+pub fn source() -> [u8; 256]
+    ensures { λ r. ⌜ r ≡ sources ⌝ }
+{
+    let mut s = [0u8; 256];
+    let mut p = 0;
+    while p < 256 {
+        s[p] = (p / 16 % 256) as u8;
+        p += 1;
+    }
+    s
+}
+
+// Whether the entries at places p and q have one output letter and far ends of depth above k.
+fn stands<'a>(
+    output: &'a [u8; 256],
+    far: &'a [u8; 256],
+    d: &'a [[u8; 16]; 16],
+    p: usize,
+    q: usize,
+    k: u8,
+) -> bool
+    requires { ⌜ (p < 256) × (q < 256) × (getD (now far) p 0 < 16) × (getD (now far) q 0 < 16) ⌝ }
+    ensures { λ r. ⌜ r ≡ both (eqb (getD (now (output .entry)) p 0) (getD (now (output .entry)) q 0)) (ltb k (at (now (d .entry)) (getD (now (far .entry)) p 0) (getD (now (far .entry)) q 0))) ⌝ }
+{
+    if output[p] == output[q] {
+        let s = number(far[p]);
+        let t = number(far[q]);
+        return k < d[s][t];
+    }
+    false
+}
+
+// From the edge `from` on, the first edge of its pair whose far ends have a depth above k; its x is 0 where there is none. The
+// second near end is v.
+fn seek<'a>(
+    last: &'a [u16; 64],
+    previous: &'a [u16; 256],
+    output: &'a [u8; 256],
+    far: &'a [u8; 256],
+    d: &'a [[u8; 16]; 16],
+    v: usize,
+    from: Edge,
+    k: u8,
+) -> Edge
+    requires { ⌜ SeekAsked (now last) (now previous) (now output) (now far) (now d) k v from ⌝ }
+    ensures { λ r. ⌜ ((c : CoderOf) (way : Direction) (u : ℕ) → ArraysOf c way (now (last .entry)) (now (previous .entry)) (now (output .entry)) (now (far .entry)) → Seeking c way (Above (now (d .entry)) k) u v (from .x) (from .y) → Sought c way (Above (now (d .entry)) k) u v r) ⌝ }
+{
+    let mut x = from.x;
+    let mut y = from.y;
+    while 0 < x {
+        if y == 0 {
+            x = wide(previous[x - 1]);
+            y = wide(last[v]);
+        } else {
+            let p = x - 1;
+            let q = y - 1;
+            if stands(output, far, d, p, q, k) {
+                return Edge { x, y };
+            }
+            y = wide(previous[q]);
+        }
+    }
+    Edge { x: 0, y: 0 }
+}
+
+// One round: a pair that stands at level k and has no neighbour there gets the depth k + 1. Says whether any pair does.
+fn round<'a>(
+    last: &'a [u16; 64],
+    previous: &'a [u16; 256],
+    output: &'a [u8; 256],
+    far: &'a [u8; 256],
+    states: usize,
+    d: &mut [[u8; 16]; 16],
+    xs: &mut [u16; 256],
+    ys: &mut [u16; 256],
+    k: u8,
+) -> bool
+    requires { ⌜ RoundAsked (now last) (now previous) (now output) (now far) states k (now d) (now xs) (now ys) ⌝ }
+    ensures { λ r. ⌜ ((c : CoderOf) (way : Direction) (flags : List ℕ) → ArraysOf c way (now (last .entry)) (now (previous .entry)) (now (output .entry)) (now (far .entry)) → states ≡ c .states → Before c way flags k (now (d .entry)) (now (xs .entry)) (now (ys .entry)) → Rounded c way flags k (now (d .exit)) (now (xs .exit)) (now (ys .exit)) r) ⌝ }
+{
+    let end = 16 * states;
+    let mut changed = false;
+    let mut a = 0;
+    while a < end {
+        let place = a;
+        let u = a / 16;
+        let v = a % 16;
+        a += 1;
+        if d[u][v] == 255 {
+            let from = Edge {
+                x: wide(xs[place]),
+                y: wide(ys[place]),
+            };
+            let e = seek(last, previous, output, far, d, v, from, k);
+            let x = e.x;
+            let y = e.y;
+            xs[place] = x as u16;
+            ys[place] = y as u16;
+            if x == 0 {
+                d[u][v] = k + 1;
+                changed = true;
+            }
+        }
+    }
+    changed
+}
+
+// Whether s is a start state.
+fn starts(states: usize, flags: &[u8; 16], s: usize) -> bool
+    requires { ⌜ s < 16 ⌝ }
+    ensures { λ r. ⌜ r ≡ startFlag states (now (flags .entry)) s ⌝ }
+{
+    if s < states {
+        return flags[s] == 1;
+    }
+    false
+}
+
+fn both_start(states: usize, flags: &[u8; 16], u: usize, v: usize) -> bool
+    requires { ⌜ (u < 16) × (v < 16) ⌝ }
+    ensures { λ r. ⌜ r ≡ both (startFlag states (now (flags .entry)) u) (startFlag states (now (flags .entry)) v) ⌝ }
+{
+    if starts(states, flags, u) {
+        return starts(states, flags, v);
+    }
+    false
+}
+
+// The depths before the first round.
+fn start_square(states: usize, flags: &[u8; 16]) -> [[u8; 16]; 16]
+    ensures { λ r. ⌜ Started states (now (flags .entry)) r ⌝ }
+{
+    let mut d = [[0u8; 16]; 16];
+    let mut a = 0;
+    while a < 256 {
+        let u = a / 16;
+        let v = a % 16;
+        a += 1;
+        if both_start(states, flags, u, v) {
+            d[u][v] = 255;
+        }
+    }
+    d
+}
+
+// The first edge of each pair.
+fn first_edges(last: &[u16; 64], xs: &mut [u16; 256], ys: &mut [u16; 256])
+    requires { ⌜ Kept (now xs) (now ys) ⌝ }
+    ensures { λ _. ⌜ FirstEdges (now (last .entry)) (now (xs .exit)) (now (ys .exit)) ⌝ }
+{
+    let mut a = 0;
+    while a < 256 {
+        xs[a] = last[a / 16];
+        ys[a] = last[a % 16];
+        a += 1;
+    }
+}
+
+// The depths in the direction of these near and far ends, in rounds until one changes nothing. The edges that keep the endless pairs
+// standing are left in xs and ys.
+fn along<'a>(
+    c: Coder,
+    near: &'a [u8; 256],
+    far: &'a [u8; 256],
+    flags: &'a [u8; 16],
+    xs: &mut [u16; 256],
+    ys: &mut [u16; 256],
+) -> [[u8; 16]; 16]
+    requires { ⌜ AlongAsked c (now near) (now far) (now xs) (now ys) ⌝ }
+    ensures { λ r. ⌜ ((d : Direction) → now (near .entry) ≡ nearEnds d c → now (far .entry) ≡ farEnds d c → DepthsFound c d (now (flags .entry)) r (now (xs .exit)) (now (ys .exit))) ⌝ }
+{
+    let states = c.states;
+    let inputs = c.inputs;
+    let chain = chains::inner::by_key(near, states, inputs);
+    first_edges(&chain.last, xs, ys);
+    let mut d = start_square(states, flags);
+    let mut k: u8 = 0;
+    loop {
+        if round(
+            &chain.last,
+            &chain.previous,
+            &c.output,
+            far,
+            states,
+            &mut d,
+            xs,
+            ys,
+            k,
+        ) {
+            k += 1;
+        } else {
+            return d;
+        }
+    }
+}
+
+// The depths back.
+pub fn back(c: Coder, flags: &[u8; 16], xs: &mut [u16; 256], ys: &mut [u16; 256]) -> [[u8; 16]; 16]
+    requires { ⌜ Sound c × Kept (now xs) (now ys) ⌝ }
+    ensures { λ r. ⌜ DepthsFound c backward (now (flags .entry)) r (now (xs .exit)) (now (ys .exit)) ⌝ }
+{
+    let states = source();
+    along(c, &c.next, &states, flags, xs, ys)
+}
+
+// The depths forward.
+pub fn forward(
+    c: Coder,
+    flags: &[u8; 16],
+    xs: &mut [u16; 256],
+    ys: &mut [u16; 256],
+) -> [[u8; 16]; 16]
+    requires { ⌜ Sound c × Kept (now xs) (now ys) ⌝ }
+    ensures { λ r. ⌜ DepthsFound c onward (now (flags .entry)) r (now (xs .exit)) (now (ys .exit)) ⌝ }
+{
+    let states = source();
+    along(c, &states, &c.next, flags, xs, ys)
+}

@@ -1,0 +1,3 @@
+-- The laws of the search.
+pub mod Verdicts
+pub mod Files

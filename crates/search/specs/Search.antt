@@ -1,0 +1,67 @@
+-- The window search: its refusal, and what its verdict says.
+use Prim.Native.Nat.{ℕ, _*_, _≤_}
+use mathlib.Core.Path.{_≡_}
+use mathlib.Core.Bool.{Bool, not}
+use mathlib.Core.List.{List}
+use lib.ListN.{length, drop}
+use lib.Dec.{leb}
+use Rattle.mealy.specs.Setting.{Setting}
+use Rattle.mealy.specs.Window.{Works}
+use Rattle.mealy.specs.Order.{FewestLetters, Least as LeastOf}
+use Rattle.mealy.specs.Product.{pairs}
+use Rattle.mealy.specs.LoopedPair.{letters, Valid, Short, TurnedRuns}
+use Rattle.coder.specs.Refusal.{refuse, first, upon}
+use Rattle.coder.specs.File.{fileRefusal, settingOf}
+use Rattle.least.specs.declared.Window.{Window}
+use Rattle.loops.specs.Pair.{pairOf}
+use Rattle.loops.specs.declared.LoopedPair.{LoopedPair}
+use Rattle.search.specs.declared.Verdict.{Verdict}
+use Rattle.search.specs.declared.Verdict.the-variants.{Least, NoDecoder}
+use Rattle.search.specs.declared.SearchResult.{SearchResult}
+use Rattle.search.specs.declared.SearchResult.the-variants.{Refused, Found}
+
+-- The call's refusal, in checking order: 1 to 6, then 11 (some lent buffer is too short).
+unfoldable pub searchRefusal : List ℕ → Bool → ℕ
+searchRefusal f fits = first (fileRefusal f) (refuse (not fits) 11 0)
+
+-- the bytes that the search wants for any verdict: two for each of 256 + 1 + 256 letters
+abbrev pub wanted : ℕ
+wanted = 1026
+
+-- Demand 3, third sentence ("Coders and runs" has the bound on the sides): the window is least among all that work, whatever their
+-- sides. The buffer stays.
+pub record WindowReport (S : Setting) (w : Window) (before after : List ℕ) : Type 0 where
+  pub least : LeastOf FewestLetters S (w .before) (w .after)
+  pub before-small : w .before ≤ pairs (S .M .states)
+  pub after-small : w .after ≤ pairs (S .M .states)
+  pub stays : after ≡ before
+
+-- Demand 3, first and second sentences: no window works, whatever its sides; and the pair in the answer and in the buffer's bytes is
+-- valid, within both bounds, and turned k times back and m times forward gives two runs as demanded, for every k and every m. The
+-- bytes past its letters stay. Which such pair is given is left open.
+pub record PairReport (S : Setting) (p : LoopedPair) (before after : List ℕ) : Type 0 where
+  pub none : (b a : ℕ) → Works S b a → ⊥
+  pub valid : Valid S (pairOf p after)
+  pub turned : (k m : ℕ) → TurnedRuns S (pairOf p after) k m
+  pub short : Short (S .M .states) (pairOf p after)
+  pub size : length after ≡ length before
+  pub rest : drop (2 * letters (pairOf p after)) after ≡ drop (2 * letters (pairOf p after)) before
+
+-- What each verdict says.
+abbrev pub Says : Setting → Verdict → List ℕ → List ℕ → Type 0
+Says S (Least w) before after = WindowReport S w before after
+Says S (NoDecoder p) before after = PairReport S p before after
+
+pub record FoundVerdict (S : Setting) (r : SearchResult) (before after : List ℕ) : Type 0 where
+  pub verdict : Verdict
+  pub is : r ≡ Found verdict
+  pub says : Says S verdict before after
+
+pub record RefusedSearch (k : ℕ) (r : SearchResult) (before after : List ℕ) : Type 0 where
+  pub is : r ≡ Refused k
+  pub stays : after ≡ before
+
+-- The first refusal that applies and the buffer as it was, or a verdict that is right for the file's machine.
+abbrev pub SearchPromise : List ℕ → List ℕ → SearchResult → List ℕ → Type 0
+SearchPromise f before r after =
+    upon (searchRefusal f (leb wanted (length before))) (λ k. RefusedSearch k r before after) (FoundVerdict (settingOf f) r before after)

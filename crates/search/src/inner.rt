@@ -1,0 +1,54 @@
+// No public calls: the search's refusal, and the search on a checked coder with its start states.
+ghost use mathlib.Core.Path.{_≡_};
+ghost use Prim.Native.Nat.{_≤_};
+ghost use lib.ListN.{length};
+ghost use Rattle.mealy.specs.Setting.{Closed, flagged};
+ghost use Rattle.coder.specs.Table.{machineOfCoder, Sound};
+ghost use Rattle.search.specs.Search.{searchRefusal, wanted, Says};
+use crate::Verdict;
+use coder::inner::tables::Coder;
+
+// The bytes that the search wants for any verdict.
+pub const WANTED: usize = 1026;
+
+// The refusal of a search, or 0. `fits` says whether all lent buffers are long enough.
+pub fn refusal(file: &[u8], fits: bool) -> usize
+    ensures { λ r. ⌜ r ≡ searchRefusal (now (file .entry)) fits ⌝ }
+{
+    let k = coder::inner::file::refusal(file);
+    if k != 0 {
+        return k;
+    }
+    if fits { 0 } else { 11 }
+}
+
+// The verdict on a coder whose runs start in the states with flag 1.
+pub fn verdict(c: Coder, flags: &[u8; 16], letters: &mut [u8]) -> Verdict
+    requires { ⌜ Sound c × Closed (flagged (machineOfCoder c) (now flags)) × (wanted ≤ length (now letters)) ⌝ }
+    ensures { λ r. ⌜ Says (flagged (machineOfCoder c) (now (flags .entry))) r (now (letters .entry)) (now (letters .exit)) ⌝ }
+{
+    let states = c.states;
+    let inputs = c.inputs;
+    let mut bx = [0u16; 256];
+    let mut by = [0u16; 256];
+    let mut fx = [0u16; 256];
+    let mut fy = [0u16; 256];
+    let backs = product::inner::back(c, flags, &mut bx, &mut by);
+    let forwards = product::inner::forward(c, flags, &mut fx, &mut fy);
+    let chain = chains::inner::by_key(&c.output, states, inputs);
+    let mut worst = [0u8; 256];
+    let e = least::inner::conflicts(
+        c,
+        &chain.last,
+        &chain.previous,
+        &backs,
+        &forwards,
+        &mut worst,
+    );
+    let x = e.x;
+    if x == 0 {
+        let need = least::inner::needs(&worst);
+        return Verdict::Least(least::inner::choose(&need));
+    }
+    Verdict::NoDecoder(loops::inner::find(c, &bx, &by, &fx, &fy, e, letters))
+}

@@ -1,0 +1,30 @@
+// The window search. docs/public-calls.md describes the call.
+ghost use Rattle.search.specs.Search.{SearchPromise};
+
+pub mod inner; // inner.rt: what the crates above call on checked bytes; no public calls
+
+// The least window that works, or a looped pair that excludes every window; the pair's letters lie in the lent buffer.
+pub enum Verdict {
+    Least(least::Window),
+    NoDecoder(loops::LoopedPair),
+}
+
+// The refusal's number, or the verdict.
+pub enum SearchResult {
+    Refused(usize),
+    Found(Verdict),
+}
+
+// Finds the least window that works for a coder, or a looped pair where none does. Refusals 1 to 6, 11. Which looped pair is given is
+// left open.
+pub fn search(file: &[u8], letters: &mut [u8]) -> SearchResult
+    ensures { λ r. ⌜ SearchPromise (now (file .entry)) (now (letters .entry)) r (now (letters .exit)) ⌝ }
+{
+    let k = inner::refusal(file, inner::WANTED <= letters.len());
+    if k != 0 {
+        return SearchResult::Refused(k);
+    }
+    let c = coder::inner::tables::Coder::from_checked(file);
+    let flags = [1u8; 16];
+    SearchResult::Found(inner::verdict(c, &flags, letters))
+}
