@@ -12,7 +12,8 @@ use borrow.Author.Tests.{eq-eqb, ne-eqb}
 use Rattle.coder.specs.Refusal.{pick}
 use Rattle.chains.specs.Chain.{isEntry, hasKey, lastBelow, Chained}
 use Rattle.chains.specs.declared.inner.Chain.{Chain}
-use Rattle.chains.proofs.Chains.{true-false, last-skip}
+use Rattle.coder.proofs.Refusals.{true-false}
+use Rattle.chains.proofs.Chains.{last-skip}
 use Rattle.chains.proofs.Entries.{past-states, no-key, key-test}
 
 module _ (keys : List ℕ) (n i : ℕ) where

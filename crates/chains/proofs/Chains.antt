@@ -5,10 +5,8 @@ use Prim.Native.Nat.{ℕ, zero, suc, _≤_, _<_}
 use native.Mathlib.Omega.{arith}
 use native.Mathlib.Decide.{ℕ-discrete}
 use Rattle.coder.specs.Refusal.{pick}
+use Rattle.coder.proofs.Refusals.{true-false}
 use Rattle.chains.specs.Chain.{lastBelow, over}
-
-pub true-false : {b : Bool} → b ≡ true → b ≡ false → ⊥
-true-false e f = let z : _≡_ {A = ℕ} 0 1 = cc in omega arith
 
 module _ (test : ℕ → Bool) where
   pub last-bound : (p : ℕ) → lastBelow test p ≤ p

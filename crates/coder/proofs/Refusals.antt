@@ -25,6 +25,9 @@ pub both-true : (a b : Bool) → both a b ≡ true → (a ≡ true) × (b ≡ tr
 both-true true b e = (refl, e)
 both-true false b e = (e, let z : _≡_ {A = ℕ} 0 1 = cc in absurd (omega arith))
 
+pub true-false : {b : Bool} → b ≡ true → b ≡ false → ⊥
+true-false e f = let z : _≡_ {A = ℕ} 0 1 = cc in absurd (omega arith)
+
 pub both-right : (t : Bool) → both t true ≡ t
 both-right true = refl
 both-right false = refl

@@ -14,7 +14,8 @@ use Rattle.coder.proofs.Refusals.{both-true}
 use Rattle.coder.specs.Table.{Sound}
 use Rattle.coder.specs.declared.inner.tables.Coder.{Coder}
 use Rattle.chains.specs.Chain.{isEntry, hasKey, lastBelow}
-use Rattle.chains.proofs.Chains.{true-false, last-bound, last-passes, last-above}
+use Rattle.coder.proofs.Refusals.{true-false}
+use Rattle.chains.proofs.Chains.{last-bound, last-passes, last-above}
 use Rattle.chains.proofs.Entries.{is-entry, entry-place, has-key, key-entry}
 use Rattle.product.specs.Depth.{at}
 use Rattle.product.proofs.Entries.{entry-below, far-below}

@@ -21,7 +21,8 @@ use Rattle.coder.proofs.Refusals.{both-true}
 use Rattle.coder.proofs.Fill.{length-table}
 use Rattle.chains.specs.Chain.{Keys, Chained}
 use Rattle.chains.specs.declared.inner.Chain.{Chain}
-use Rattle.chains.proofs.Chains.{true-false, last-above}
+use Rattle.coder.proofs.Refusals.{true-false}
+use Rattle.chains.proofs.Chains.{last-above}
 use Rattle.chains.proofs.Entries.{has-key}
 use Rattle.product.specs.Depth.{at, Depth}
 use Rattle.product.specs.Entries.{sources, nearEnds, farEnds, far, Joins, ArraysOf}

@@ -13,7 +13,7 @@ use Rattle.mealy.specs.Product.{Direction}
 use Rattle.mealy.proofs.Levels.{level-start, level-fall}
 use Rattle.coder.specs.Table.{machineOfCoder, Sound}
 use Rattle.coder.specs.declared.inner.tables.Coder.{Coder}
-use Rattle.chains.proofs.Chains.{true-false}
+use Rattle.coder.proofs.Refusals.{true-false}
 use Rattle.product.specs.Depth.{at, Square}
 use Rattle.product.specs.Entries.{far, Joins}
 use Rattle.product.specs.Rounds.{Seeking, Sought, Above, RightTo, LevelOf, Kept, edgeAt, Before, Some, Rounded}

@@ -1,0 +1,41 @@
+-- The promise of the checker leaves one result: some result meets it, and two that meet it for the same arguments are equal.
+use mathlib.Core.Path.{_≡_, refl, sym, ap, _∙_}
+use mathlib.Core.Bool.{true}
+use mathlib.Core.Logic.{Dec·not}
+use mathlib.Core.List.{List}
+use Prim.Native.Nat.{ℕ, zero, suc}
+use native.Mathlib.Decide.{decLt, ℕ-discrete}
+use Rattle.mealy.specs.LoopedPair.{LoopedPair, Valid}
+use Rattle.coder.specs.Refusal.{upon}
+use Rattle.coder.specs.File.{settingOf, machineOf}
+use Rattle.checker.specs.Check.{checkRefusal, CheckedRight, CheckPromise}
+use Rattle.coder.specs.Refusal.{Judges}
+use Rattle.checker.specs.declared.CheckResult.{CheckResult}
+use Rattle.checker.specs.declared.CheckResult.the-variants.{Refused, Checked}
+use Rattle.checker.proofs.Judging.{judges-same, judges-decided}
+use Rattle.coder.proofs.Refusals.{upon-refused, upon-done}
+use Rattle.checker.proofs.Checking.{right}
+use Rattle.checker.proofs.Decisions.{dec-valid}
+
+module _ (f : List ℕ) (p : LoopedPair) where
+  judged : {r : CheckResult} → (a : CheckedRight f p r) → Judges (Valid (settingOf f) p) (a .answer)
+  judged a = record { yes′ = a .yes′; no′ = a .no′ }
+
+  same-answer :
+      (k : ℕ) (r r′ : CheckResult) → upon k (λ j. r ≡ Refused j) (CheckedRight f p r) →
+      upon k (λ j. r′ ≡ Refused j) (CheckedRight f p r′) → r ≡ r′
+  same-answer zero r r′ a b = a .is ∙ ap Checked (judges-same _ _ (judged a) (judged b)) ∙ sym (b .is)
+  same-answer (suc k) r r′ a b = a ∙ sym b
+
+  pub check-determined : (r r′ : CheckResult) → CheckPromise f p r → CheckPromise f p r′ → r ≡ r′
+  check-determined r r′ a b = same-answer (checkRefusal f p true) r r′ a b
+
+  pub check-exists : (r : CheckResult) × CheckPromise f p r
+  check-exists =
+      elim (ℕ-discrete (checkRefusal f p true) 0) [
+        | yes e ↦
+            let valid = dec-valid (settingOf f) (λ s. decLt s (machineOf f .states)) (λ i j. Dec·not (ℕ-discrete i j)) p in
+            let d = judges-decided valid in
+            (Checked (d .0), upon-done _ _ _ e (right (d .1)))
+        | no h ↦ (Refused (checkRefusal f p true), upon-refused _ _ _ refl h refl)
+      ]

@@ -1,0 +1,8 @@
+-- Laws of the pair checker.
+pub mod Judging
+pub mod Following
+pub mod Parts
+pub mod Checking
+pub mod Decisions
+pub mod Determined
+pub mod Examples
