@@ -1,3 +1,4 @@
 -- The laws of the search.
 pub mod Verdicts
 pub mod Files
+pub mod Determined

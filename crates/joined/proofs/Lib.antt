@@ -1,0 +1,2 @@
+-- Theorems over the promises of several calls.
+pub mod RoundTrip

@@ -1,0 +1,1 @@
+// Theorems over the promises of several calls: laws in proofs/, no code.

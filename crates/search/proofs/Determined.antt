@@ -1,0 +1,95 @@
+-- What the promise of the search leaves open: nothing but which looped pair is given, and its bytes.
+use mathlib.Core.Path.{_≡_, refl, sym, ap₂, _∙_}
+use mathlib.Core.Logic.{_↔_}
+use mathlib.Core.List.{List}
+use Prim.Native.Nat.{ℕ, zero, suc}
+use native.Mathlib.Omega.{arith}
+use lib.ListN.{length}
+use lib.Dec.{leb}
+use Rattle.mealy.specs.Setting.{Setting}
+use Rattle.mealy.specs.Window.{Works}
+use Rattle.mealy.proofs.LeastWindows.{least-unique, fewest-letters}
+use Rattle.coder.specs.Refusal.{upon}
+use Rattle.coder.specs.File.{settingOf}
+use Rattle.least.specs.declared.Window.{Window}
+use Rattle.search.specs.Search.{searchRefusal, wanted, Says, FoundVerdict, RefusedSearch, SearchPromise}
+use Rattle.search.specs.declared.Verdict.{Verdict}
+use Rattle.search.specs.declared.Verdict.the-variants.{Least, NoDecoder}
+use Rattle.search.specs.declared.SearchResult.{SearchResult}
+use Rattle.search.specs.declared.SearchResult.the-variants.{Refused, Found}
+
+-- ---- "no decoder" exactly when no window works
+
+-- the verdict is a looped pair
+abbrev pub IsPair : Verdict → Type 0
+IsPair (Least w) = ⊥
+IsPair (NoDecoder p) = Unit {0}
+
+-- the result is "no decoder", with whatever pair
+abbrev pub IsNoDecoder : SearchResult → Type 0
+IsNoDecoder (Refused k) = ⊥
+IsNoDecoder (Found v) = IsPair v
+
+pair-exactly :
+    (S : Setting) (v : Verdict) (before after : List ℕ) → Says S v before after → IsPair v ↔ ((b a : ℕ) → Works S b a → ⊥)
+pair-exactly S (Least w) before after h = (λ x. absurd x, λ none. none (w .before) (w .after) (h .least .works))
+pair-exactly S (NoDecoder p) before after h = (λ x. h .none, λ none. tt)
+
+-- Demand 3, first sentence: a search that is not refused says "no decoder" exactly when no window works, whatever its sides.
+pub no-decoder-exactly :
+    (f before : List ℕ) (r : SearchResult) (after : List ℕ) → searchRefusal f (leb wanted (length before)) ≡ 0 →
+    SearchPromise f before r after → IsNoDecoder r ↔ ((b a : ℕ) → Works (settingOf f) b a → ⊥)
+no-decoder-exactly f before r after e h =
+    let g : FoundVerdict (settingOf f) r before after = rw e at h in
+    rw (g .is) (pair-exactly (settingOf f) (g .verdict) before after (g .says))
+
+-- ---- two outcomes of one call
+
+-- Two verdicts with the buffers after them. Which looped pair is given is left open by document 01 ("Looped pair": "Which valid
+-- pair the search gives is left open"), so of two pairs only the sizes of the buffers are compared.
+abbrev pub SameVerdict : Verdict → List ℕ → Verdict → List ℕ → Type 0
+SameVerdict (Least w) after (Least w′) after′ = (w ≡ w′) × (after ≡ after′)
+SameVerdict (Least w) after (NoDecoder p′) after′ = ⊥
+SameVerdict (NoDecoder p) after (Least w′) after′ = ⊥
+SameVerdict (NoDecoder p) after (NoDecoder p′) after′ = length after ≡ length after′
+
+-- the same for two results
+abbrev pub SameButPair : SearchResult → List ℕ → SearchResult → List ℕ → Type 0
+SameButPair (Refused k) after (Refused k′) after′ = (k ≡ k′) × (after ≡ after′)
+SameButPair (Refused k) after (Found v′) after′ = ⊥
+SameButPair (Found v) after (Refused k′) after′ = ⊥
+SameButPair (Found v) after (Found v′) after′ = SameVerdict v after v′ after′
+
+abbrev windowOf : ℕ → ℕ → Window
+windowOf b a = record { before = b; after = a }
+
+window-same : (w w′ : Window) → w .before ≡ w′ .before → w .after ≡ w′ .after → w ≡ w′
+window-same w w′ e d = ap₂ windowOf e d
+
+verdict-determined :
+    (S : Setting) (before : List ℕ) (v v′ : Verdict) (after after′ : List ℕ) → Says S v before after →
+    Says S v′ before after′ → SameVerdict v after v′ after′
+verdict-determined S before (Least w) (Least w′) after after′ p q =
+    let e = least-unique fewest-letters S (w .before) (w .after) (w′ .before) (w′ .after) (p .least) (q .least) in
+    (window-same w w′ (e .0) (e .1), p .stays ∙ sym (q .stays))
+verdict-determined S before (Least w) (NoDecoder p′) after after′ p q = q .none (w .before) (w .after) (p .least .works)
+verdict-determined S before (NoDecoder p₀) (Least w′) after after′ p q = p .none (w′ .before) (w′ .after) (q .least .works)
+verdict-determined S before (NoDecoder p₀) (NoDecoder p′) after after′ p q = p .size ∙ sym (q .size)
+
+-- Two outcomes that meet the promise for the same arguments are equal but for which looped pair is given, and its bytes.
+pub search-determined :
+    (f before : List ℕ) (r r′ : SearchResult) (after after′ : List ℕ) → SearchPromise f before r after →
+    SearchPromise f before r′ after′ → SameButPair r after r′ after′
+search-determined f before r r′ after after′ = go (searchRefusal f (leb wanted (length before))) refl
+  where
+    go :
+        (k : ℕ) → searchRefusal f (leb wanted (length before)) ≡ k → SearchPromise f before r after →
+        SearchPromise f before r′ after′ → SameButPair r after r′ after′
+    go zero e p q =
+        let x = rw e at p in
+        let y = rw e at q in
+        rw (x .is) (rw (y .is) (verdict-determined (settingOf f) before (x .verdict) (y .verdict) after after′ (x .says) (y .says)))
+    go (suc k) e p q =
+        let x = rw e at p in
+        let y = rw e at q in
+        rw (x .is) (rw (y .is) ((refl, x .stays ∙ sym (y .stays))))
