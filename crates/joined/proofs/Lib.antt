@@ -1,2 +1,4 @@
 -- Theorems over the promises of several calls.
 pub mod RoundTrip
+pub mod Tests
+pub mod Starred

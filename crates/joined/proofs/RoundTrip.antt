@@ -31,6 +31,7 @@ use Rattle.decoder.specs.Places.{places, stringRefusalIn, StringPromise}
 use Rattle.decoder.specs.declared.CountResult.{CountResult}
 use Rattle.decoder.specs.declared.CountResult.the-variants.{Done}
 use Rattle.decoder.proofs.ComeBack.{string-comes-back}
+use Rattle.joined.specs.RoundTrip.{RoundTrip}
 
 -- ---- letters
 
@@ -57,12 +58,6 @@ window-report f letters letters′ w p = go (searchRefusal f (leb wanted (length
     go (suc k) q = let e = q .is in let z : _≡_ {A = ℕ} 0 1 = cc in absurd (omega arith)
 
 -- ---- the three calls
-
--- what the three calls give together: neither is refused, and the decoded bytes are the input letters with a full window
-pub record RoundTrip (f : List ℕ) (s : ℕ) (xs : List ℕ) (w : Window) (r₁ : RunResult) (r₃ : CountResult) (decoded : List ℕ) : Type 0 where
-  pub ran : r₁ ≡ run.the-variants.Done (length xs) (end (machineOf f) s xs)
-  pub counted : r₃ ≡ Done (places (length xs) (w .before) (w .after))
-  pub back : (k : ℕ) → k < places (length xs) (w .before) (w .after) → getD decoded k 0 ≡ getD xs (k + w .before) 0
 
 module _ (f : List ℕ) (s : ℕ) (xs : List ℕ) (file-ok : fileRefusal f ≡ 0) (start : s < statesOf f) (letters-ok : Letters (inputsOf f) xs) where
   a : Accepted f

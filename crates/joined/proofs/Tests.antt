@@ -1,0 +1,220 @@
+-- Computed tests of windows, pairs and answers, and laws from each test to what it shows.
+use mathlib.Core.Path.{_≡_, refl, sym, ap, ap₂, _∙_}
+use mathlib.Core.Bool.{Bool, true, false, not}
+use mathlib.Core.Logic.{_≢_}
+use mathlib.Core.List.{List, [], _∷_}
+use Prim.Native.Nat.{ℕ, zero, suc, _+_, _-_, _*_, _≤_, _<_}
+use native.Mathlib.Omega.{arith}
+use native.Mathlib.Decide.{decLt, decLe, ℕ-discrete}
+use lib.ListN.{length, getD}
+use lib.Dec.{ltb, leb, eqb}
+use borrow.Author.Tests.{ltb-true, leb-true, eqb-true, eqb-false, eq-eqb, ne-eqb, lt-ltb, le-ltb, not-true}
+use Rattle.mealy.specs.Machine.{Machine, outs, end, Letters}
+use Rattle.mealy.specs.Setting.{anyState}
+use Rattle.mealy.specs.Window.{Works, SameLetter}
+use Rattle.mealy.specs.Order.{FewestLetters, Least}
+use Rattle.mealy.specs.LoopedPair.{LoopedPair, Run, first, second, letterAt, lettersFrom, mark, unlooped, letters, startOf, inputsOf, Valid}
+use Rattle.mealy.proofs.Plain.{works↔same-letter}
+use Rattle.coder.specs.Refusal.{pick, both, allBelow, lettersBelow}
+use Rattle.coder.proofs.Refusals.{true-false, both-true, all-at, letters-below}
+
+-- ---- lists
+
+abbrev pub sameList : List ℕ → List ℕ → Bool
+sameList [] [] = true
+sameList [] (y ∷ ys) = false
+sameList (x ∷ xs) [] = false
+sameList (x ∷ xs) (y ∷ ys) = both (eqb x y) (sameList xs ys)
+
+pub same-list : (xs ys : List ℕ) → sameList xs ys ≡ true → xs ≡ ys
+same-list [] [] e = refl
+same-list [] (y ∷ ys) e = absurd (true-false e refl)
+same-list (x ∷ xs) [] e = absurd (true-false e refl)
+same-list (x ∷ xs) (y ∷ ys) e = let b = both-true (eqb x y) (sameList xs ys) e in ap₂ _∷_ (eqb-true x y (b .0)) (same-list xs ys (b .1))
+
+list-same : (xs : List ℕ) → sameList xs xs ≡ true
+list-same [] = refl
+list-same (x ∷ xs) = rw (eq-eqb x x refl) (list-same xs)
+
+-- ---- numbers below n, and words of n letters below i
+
+all-false : (n : ℕ) (p : ℕ → Bool) → allBelow n p ≡ false → (k : ℕ) × (k < n) × (p k ≡ false)
+unfolding allBelow
+all-false zero p e = absurd (true-false refl e)
+all-false (suc n) p e = go (p n) refl (all-false n p)
+  where
+    go : (b : Bool) → p n ≡ b → (allBelow n p ≡ false → (k : ℕ) × (k < n) × (p k ≡ false)) → (k : ℕ) × (k < suc n) × (p k ≡ false)
+    go true f h = let z = h (rw f at e) in (z .0, omega (arith, z .1), z .2)
+    go false f h = (n, omega arith, f)
+
+unfoldable pub allWords : ℕ → ℕ → (List ℕ → Bool) → Bool
+allWords i zero p = p []
+allWords i (suc n) p = allBelow i (λ x. allWords i n (λ xs. p (x ∷ xs)))
+
+words-at : (i n : ℕ) (p : List ℕ → Bool) → allWords i n p ≡ true → (xs : List ℕ) → Letters i xs → length xs ≡ n → p xs ≡ true
+unfolding allWords
+words-at i zero p e [] l m = e
+words-at i zero p e (x ∷ xs) l m = absurd (omega arith)
+words-at i (suc n) p e [] l m = absurd (omega arith)
+words-at i (suc n) p e (x ∷ xs) l m = words-at i n (λ xs. p (x ∷ xs)) (all-at i (λ x. allWords i n (λ xs. p (x ∷ xs))) e x (l .0)) xs (l .1) (omega arith)
+
+record Word (i n : ℕ) (p : List ℕ → Bool) : Type 0 where
+  xs : List ℕ
+  below : Letters i xs
+  long : length xs ≡ n
+  fails : p xs ≡ false
+
+words-false : (i n : ℕ) (p : List ℕ → Bool) → allWords i n p ≡ false → Word i n p
+unfolding allWords
+words-false i zero p e = record { xs = []; below = tt; long = refl; fails = e }
+words-false i (suc n) p e =
+    let k = all-false i (λ x. allWords i n (λ xs. p (x ∷ xs))) e in
+    let w = words-false i n (λ xs. p (k .0 ∷ xs)) (k .2) in
+    record { xs = k .0 ∷ w .xs; below = (k .1, w .below); long = ap suc (w .long); fails = w .fails }
+
+differs : (e d : Bool) → pick e d true ≡ false → (e ≡ true) × (d ≡ false)
+differs true d z = (refl, z)
+differs false d z = absurd (true-false refl z)
+
+-- ---- windows: all pairs of runs of b + 1 + a letters
+
+module _ (M : Machine) (b a : ℕ) where
+  -- runs that differ in output, or have one letter at place b
+  unfoldable pub agree : ℕ → ℕ → List ℕ → List ℕ → Bool
+  agree s t xs ys = pick (sameList (outs M s xs) (outs M t ys)) (eqb (getD xs b 0) (getD ys b 0)) true
+
+  unfoldable pub worksTest : Bool
+  worksTest = allBelow (M .states) (λ s. allBelow (M .states) (λ t. allWords (M .inputs) (b + 1 + a) (λ xs. allWords (M .inputs) (b + 1 + a) (λ ys. agree s t xs ys))))
+
+  pub works-test : worksTest ≡ true → Works (anyState M) b a
+  unfolding worksTest agree
+  works-test e = works↔same-letter M b a .1 (λ s t xs ys p q g h k l f.
+      let w = words-at (M .inputs) (b + 1 + a) (λ ys. agree s t xs ys)
+      (words-at (M .inputs) (b + 1 + a) (λ xs. allWords (M .inputs) (b + 1 + a) (λ ys. agree s t xs ys))
+      (all-at (M .states) (λ t. allWords (M .inputs) (b + 1 + a) (λ xs. allWords (M .inputs) (b + 1 + a) (λ ys. agree s t xs ys)))
+      (all-at (M .states) (λ s. allBelow (M .states) (λ t. allWords (M .inputs) (b + 1 + a) (λ xs. allWords (M .inputs) (b + 1 + a) (λ ys. agree s t xs ys)))) e s p) t q)
+      xs g k) ys h l in
+      let same : sameList (outs M s xs) (outs M t ys) ≡ true = rw f (list-same (outs M t ys)) in
+      eqb-true _ _ (rw same at w))
+
+  pub fails-test : worksTest ≡ false → Works (anyState M) b a → ⊥
+  unfolding worksTest agree
+  fails-test e f =
+      let p = all-false (M .states) (λ s. allBelow (M .states) (λ t. allWords (M .inputs) (b + 1 + a) (λ xs. allWords (M .inputs) (b + 1 + a) (λ ys. agree s t xs ys)))) e in
+      let q = all-false (M .states) (λ t. allWords (M .inputs) (b + 1 + a) (λ xs. allWords (M .inputs) (b + 1 + a) (λ ys. agree (p .0) t xs ys))) (p .2) in
+      let x = words-false (M .inputs) (b + 1 + a) (λ xs. allWords (M .inputs) (b + 1 + a) (λ ys. agree (p .0) (q .0) xs ys)) (q .2) in
+      let y = words-false (M .inputs) (b + 1 + a) (λ ys. agree (p .0) (q .0) (x .xs) ys) (x .fails) in
+      let d = differs (sameList (outs M (p .0) (x .xs)) (outs M (q .0) (y .xs))) (eqb (getD (x .xs) b 0) (getD (y .xs) b 0)) (y .fails) in
+      eqb-false _ _ (d .1) (works↔same-letter M b a .0 f (p .0) (q .0) (x .xs) (y .xs) (p .1) (q .1) (x .below) (y .below) (x .long) (y .long) (same-list _ _ (d .0)))
+
+-- ---- the least window: it works, and none that comes before it does
+
+module _ (M : Machine) (b a : ℕ) where
+  -- of the windows of n + 1 letters, that with lookahead c does not come before b a, or does not work
+  unfoldable pub later : ℕ → ℕ → Bool
+  later n c = pick (ltb n (b + a)) (not (worksTest M (n - c) c)) (pick (ltb c a) (not (worksTest M (n - c) c)) true)
+
+  unfoldable pub leastTest : Bool
+  leastTest = both (worksTest M b a) (allBelow (b + a + 1) (λ n. allBelow (n + 1) (later n)))
+
+  pub least-test : leastTest ≡ true → Least FewestLetters (anyState M) b a
+  unfolding leastTest later
+  least-test e =
+      let z = both-true (worksTest M b a) (allBelow (b + a + 1) (λ n. allBelow (n + 1) (later n))) e in
+      record {
+        works = works-test M b a (z .0);
+        least = λ b′ a′ f.
+            let w : Works (anyState M) ((b′ + a′) - a′) a′ = let g : b′ ≡ (b′ + a′) - a′ = omega arith in rw g at f in
+            let t : (l : b′ + a′ < b + a + 1) → later (b′ + a′) a′ ≡ true = λ l. all-at (b′ + a′ + 1) (later (b′ + a′)) (all-at (b + a + 1) (λ n. allBelow (n + 1) (later n)) (z .1) (b′ + a′) l) a′ (omega arith) in
+            record {
+              fewer = elim (decLt (b′ + a′) (b + a)) [
+                | yes l ↦ absurd (fails-test M (b′ + a′ - a′) a′ (not-true _ (rw (lt-ltb (b′ + a′) (b + a) l) at (t (omega arith)))) w)
+                | no l ↦ omega arith
+              ];
+              tie = λ g. elim (decLt a′ a) [
+                | yes l ↦ absurd (fails-test M (b′ + a′ - a′) a′ (not-true _ (rw (le-ltb (b′ + a′) (b + a) (omega arith), lt-ltb a′ a l) at (t (omega arith)))) w)
+                | no l ↦ omega arith
+              ];
+            };
+      }
+
+-- ---- looped pairs
+
+module _ (M : Machine) (p : LoopedPair) where
+  unfoldable pub closesTest : Run → Bool
+  closesTest r =
+      both (ltb (startOf p r) (M .states))
+      (both (lettersBelow (M .inputs) (inputsOf p r))
+      (both (eqb (end M (startOf p r) (lettersFrom p r 0 (p .back-loop))) (startOf p r))
+      (eqb (end M (startOf p r) (inputsOf p r)) (end M (startOf p r) (lettersFrom p r 0 (unlooped p))))))
+
+  unfoldable pub validTest : Bool
+  validTest =
+      both (leb (2 * letters p) (length (p .bytes)))
+      (both (ltb 0 (p .back-loop))
+      (both (ltb 0 (p .forward-loop))
+      (both (sameList (outs M (p .s) (inputsOf p first)) (outs M (p .t) (inputsOf p second)))
+      (both (not (eqb (letterAt p first (mark p)) (letterAt p second (mark p))))
+      (both (closesTest first) (closesTest second))))))
+
+  record ClosedRun (r : Run) : Type 0 where
+    start : startOf p r < M .states
+    below : Letters (M .inputs) (inputsOf p r)
+    back-closed : end M (startOf p r) (lettersFrom p r 0 (p .back-loop)) ≡ startOf p r
+    forward-closed : end M (startOf p r) (inputsOf p r) ≡ end M (startOf p r) (lettersFrom p r 0 (unlooped p))
+
+  closed-run : (r : Run) → closesTest r ≡ true → ClosedRun r
+  unfolding closesTest
+  closed-run r e =
+      let f = eqb (end M (startOf p r) (inputsOf p r)) (end M (startOf p r) (lettersFrom p r 0 (unlooped p))) in
+      let b = eqb (end M (startOf p r) (lettersFrom p r 0 (p .back-loop))) (startOf p r) in
+      let l = lettersBelow (M .inputs) (inputsOf p r) in
+      let x = both-true (ltb (startOf p r) (M .states)) (both l (both b f)) e in
+      let y = both-true l (both b f) (x .1) in
+      let z = both-true b f (y .1) in
+      record {
+        start = ltb-true _ _ (x .0);
+        below = letters-below (M .inputs) (inputsOf p r) (y .0);
+        back-closed = eqb-true _ _ (z .0);
+        forward-closed = eqb-true _ _ (z .1);
+      }
+
+  pub valid-test : validTest ≡ true → Valid (anyState M) p
+  unfolding validTest
+  valid-test e =
+      let c = both (closesTest first) (closesTest second) in
+      let d = not (eqb (letterAt p first (mark p)) (letterAt p second (mark p))) in
+      let o = sameList (outs M (p .s) (inputsOf p first)) (outs M (p .t) (inputsOf p second)) in
+      let f = ltb 0 (p .forward-loop) in
+      let b = ltb 0 (p .back-loop) in
+      let x = both-true (leb (2 * letters p) (length (p .bytes))) (both b (both f (both o (both d c)))) e in
+      let y = both-true b (both f (both o (both d c))) (x .1) in
+      let z = both-true f (both o (both d c)) (y .1) in
+      let u = both-true o (both d c) (z .1) in
+      let v = both-true d c (u .1) in
+      let w = both-true (closesTest first) (closesTest second) (v .1) in
+      let run : (r : Run) → ClosedRun r = λ r. elim r [ first ↦ closed-run first (w .0) | second ↦ closed-run second (w .1) ] in
+      record {
+        held = leb-true _ _ (x .0);
+        start = λ r. run r .start;
+        below = λ r. run r .below;
+        back-letter = ltb-true _ _ (y .0);
+        forward-letter = ltb-true _ _ (z .0);
+        outputs = same-list _ _ (u .0);
+        conflict = eqb-false _ _ (not-true _ (v .0));
+        back-closed = λ r. run r .back-closed;
+        forward-closed = λ r. run r .forward-closed;
+      }
+
+-- ---- outputs of equal states
+
+module _ (M : Machine) where
+  unfoldable pub differentTest : Bool
+  differentTest = allBelow (M .states) (λ s. allBelow (M .inputs) (λ i. allBelow (M .inputs) (λ j. pick (eqb i j) true (not (eqb (M .out s i) (M .out s j))))))
+
+  pub different-test : differentTest ≡ true → (s i j : ℕ) → s < M .states → i < M .inputs → j < M .inputs → i ≢ j → M .out s i ≢ M .out s j
+  unfolding differentTest
+  different-test e s i j l m n d =
+      let row : ℕ → ℕ → ℕ → Bool = λ s i j. pick (eqb i j) true (not (eqb (M .out s i) (M .out s j))) in
+      let w = all-at (M .inputs) (row s i) (all-at (M .inputs) (λ i. allBelow (M .inputs) (row s i)) (all-at (M .states) (λ s. allBelow (M .inputs) (λ i. allBelow (M .inputs) (row s i))) e s l) i m) j n in
+      eqb-false _ _ (not-true _ (rw (ne-eqb i j d) at w))

@@ -1,0 +1,3 @@
+-- What the theorems over several calls conclude.
+pub mod RoundTrip
+pub mod Starred
