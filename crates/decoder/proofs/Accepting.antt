@@ -27,22 +27,26 @@ sides-accepted f b a e =
     let s = both-true (leb b 136) (leb a 136) (q .0) in
     record { file = p .0; before-high = leb-true _ _ (s .0); after-high = leb-true _ _ (s .1) }
 
-pub record WindowAccepted (f : List ℕ) (b a : ℕ) (w : List ℕ) : Type 0 where
+pub record WindowAccepted (f : List ℕ) (b a : ℕ) (w : List ℕ) (fit : Bool) : Type 0 where
   pub sides : SidesAccepted f b a
   pub size : length w ≡ b + 1 + a
+  pub fits : fit ≡ true
   pub letters : Letters (outputsOf f) w
 
-pub window-accepted : (f : List ℕ) (b a : ℕ) (w : List ℕ) → windowRefusal f b a w ≡ 0 → WindowAccepted f b a w
+pub window-accepted :
+    (f : List ℕ) (b a : ℕ) (w : List ℕ) (fit : Bool) → windowRefusal f b a w fit ≡ 0 → WindowAccepted f b a w fit
 unfolding windowRefusal
-window-accepted f b a w e =
+window-accepted f b a w fit e =
     let n = eqb (length w) (b + 1 + a) in
     let l = lettersBelow (outputsOf f) w in
-    let p = first-none (sidesRefusal f b a) (refuse (not n) 9 (refuse (not l) 13 0)) e in
+    let p = first-none (sidesRefusal f b a) (refuse (not n) 9 (refuse (not fit) 11 (refuse (not l) 13 0))) e in
     let q = refuse-not n _ _ (lit< tt) (p .1) in
-    let s = refuse-not l _ _ (lit< tt) (q .1) in
+    let h = refuse-not fit _ _ (lit< tt) (q .1) in
+    let s = refuse-not l _ _ (lit< tt) (h .1) in
     record {
       sides = sides-accepted f b a (p .0);
       size = eqb-true _ _ (q .0);
+      fits = h .0;
       letters = letters-below (outputsOf f) w (s .0);
     }
 

@@ -1,6 +1,7 @@
 -- Each public call's promise leaves one outcome and is met by one: two outcomes that meet it for the same arguments are equal, and
 -- for all arguments some outcome meets it.
 use mathlib.Core.Path.{_≡_, refl, sym, ap, _∙_}
+use mathlib.Core.Bool.{true}
 use mathlib.Core.List.{List}
 use Prim.Native.Nat.{ℕ, zero, suc, _+_, _≤_, _<_}
 use native.Mathlib.Omega.{arith}
@@ -33,7 +34,7 @@ use Rattle.decoder.proofs.Decoding.{anyFlags, file-right}
 
 module _ (f : List ℕ) (b a : ℕ) (w : List ℕ) where
   pub window-determined : (r r′ : WindowResult) → WindowPromise f b a w r → WindowPromise f b a w r′ → r ≡ r′
-  window-determined r r′ = go (windowRefusal f b a w)
+  window-determined r r′ = go (windowRefusal f b a w true)
     where
       go :
           (k : ℕ) → upon k (λ j. r ≡ Refused j) (AnsweredRight f b w r) →
@@ -45,20 +46,20 @@ module _ (f : List ℕ) (b a : ℕ) (w : List ℕ) where
       go (suc k) p q = p ∙ sym q
 
   pub window-exists : (r : WindowResult) × WindowPromise f b a w r
-  window-exists = go (windowRefusal f b a w) refl
+  window-exists = go (windowRefusal f b a w true) refl
     where
       go :
-          (k : ℕ) → windowRefusal f b a w ≡ k →
+          (k : ℕ) → windowRefusal f b a w true ≡ k →
           (r : WindowResult) × upon k (λ j. r ≡ Refused j) (AnsweredRight f b w r)
       go zero e =
-          let h = window-accepted f b a w e in
+          let h = window-accepted f b a w true e in
           let v = decoded (coderOf f) anyFlags w b in
           (Answered v, record { answer = v; is = refl; right = file-right f (h .sides .file) w b (omega (arith, h .size)) })
       go (suc k) e = (Refused (suc k), refl)
 
 -- ---- the bytes that a call leaves
 
-bytes-determined :
+pub bytes-determined :
     (Q : ℕ → ℕ → Type 0) (n : ℕ) (before after after′ : List ℕ) (k : ℕ) →
     ((j x y : ℕ) → Q j x → Q j y → x ≡ y) → upon k (λ j. after ≡ before) (Written Q n before after) →
     upon k (λ j. after′ ≡ before) (Written Q n before after′) → after ≡ after′

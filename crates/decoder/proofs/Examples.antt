@@ -1,6 +1,7 @@
 -- Document 01's examples by computation: the tables of A and D, and windows of G with each of the three answers. So the records of accepted
 -- calls are met by something, and each answer occurs.
 use mathlib.Core.Path.{_≡_, refl, subst}
+use mathlib.Core.Bool.{true}
 use mathlib.Core.List.{List, [], _∷_, _++_}
 use Prim.Native.Nat.{ℕ, _+_}
 use native.Mathlib.Omega.{arith}
@@ -32,10 +33,10 @@ use Rattle.decoder.proofs.Decoding.{anyFlags, file-right}
 -- ---- a call on a file, from what the pass computes
 
 answered :
-    (f : List ℕ) (b a : ℕ) (w : List ℕ) (v : Answer) → windowRefusal f b a w ≡ 0 →
+    (f : List ℕ) (b a : ℕ) (w : List ℕ) (v : Answer) → windowRefusal f b a w true ≡ 0 →
     decoded (coderOf f) anyFlags w b ≡ v → WindowPromise f b a w (Answered v)
 answered f b a w v z e =
-    let h = window-accepted f b a w z in
+    let h = window-accepted f b a w true z in
     rw z
     record {
       answer = v;

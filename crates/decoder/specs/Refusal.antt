@@ -12,13 +12,15 @@ use Rattle.coder.specs.File.{fileRefusal, outputsOf}
 unfoldable pub sidesRefusal : List ℕ → ℕ → ℕ → ℕ
 sidesRefusal f b a = first (fileRefusal f) (refuse (not (both (leb b maxSide) (leb a maxSide))) 8 0)
 
--- One window: then 9 (the number of letters) and 13 (a received letter).
-unfoldable pub windowRefusal : List ℕ → ℕ → ℕ → List ℕ → ℕ
-windowRefusal f b a w =
+-- One window: then 9 (the number of letters), 11 (some lent buffer is too short) and 13 (a received letter). Whether all lent buffers
+-- are long enough is an argument: a call of the library lends none for a single window, a call from C lends its result.
+unfoldable pub windowRefusal : List ℕ → ℕ → ℕ → List ℕ → Bool → ℕ
+windowRefusal f b a w fits =
     first (sidesRefusal f b a)
     (refuse (not (eqb (length w) (b + 1 + a))) 9
+    (refuse (not fits) 11
     (refuse (not (lettersBelow (outputsOf f) w)) 13
-    0))
+    0)))
 
 -- A string: then 11 (some lent buffer is too short) and 13.
 unfoldable pub stringRefusal : List ℕ → ℕ → ℕ → List ℕ → Bool → ℕ

@@ -1,6 +1,7 @@
 -- One window: the call's promise.
 use Prim.Native.Nat.{ℕ}
 use mathlib.Core.Path.{_≡_}
+use mathlib.Core.Bool.{true}
 use mathlib.Core.List.{List}
 use Rattle.pass.specs.Answer.{Right}
 use Rattle.coder.specs.File.{settingOf}
@@ -18,4 +19,4 @@ pub record AnsweredRight (f : List ℕ) (b : ℕ) (w : List ℕ) (r : WindowResu
 
 -- The first refusal that applies, or the answer of demand 2's second sentence.
 abbrev pub WindowPromise : List ℕ → ℕ → ℕ → List ℕ → WindowResult → Type 0
-WindowPromise f b a w r = upon (windowRefusal f b a w) (λ k. r ≡ Refused k) (AnsweredRight f b w r)
+WindowPromise f b a w r = upon (windowRefusal f b a w true) (λ k. r ≡ Refused k) (AnsweredRight f b w r)

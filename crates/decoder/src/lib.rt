@@ -21,7 +21,7 @@ pub enum CountResult {
 pub fn window(file: &[u8], before: usize, after: usize, received: &[u8]) -> WindowResult
     ensures { λ r. ⌜ WindowPromise (now (file .entry)) before after (now (received .entry)) r ⌝ }
 {
-    let k = inner::refusal::window(file, before, after, received);
+    let k = inner::refusal::window(file, before, after, received, true);
     if k != 0 {
         return WindowResult::Refused(k);
     }

@@ -1,5 +1,6 @@
 -- `window` meets its contract: the refusal, or the answer that a pass over the letters gives, which is right.
 use mathlib.Core.Path.{_≡_, refl}
+use mathlib.Core.Bool.{true}
 use native.Mathlib.Omega.{arith}
 use denote.Ref.{now}
 use borrow.Author.Needs.{needs}
@@ -20,14 +21,14 @@ returns c = upon-refused _ _ _ (c .before .window .ensures) (c .if1 .taken) refl
 
 not-refused :
     (c : tie.Else1) →
-    let a = c .before .before .before .before .args in windowRefusal (now (a .file)) (a .before) (a .after) (now (a .received)) ≡ 0
+    let a = c .before .before .before .before .args in windowRefusal (now (a .file)) (a .before) (a .after) (now (a .received)) true ≡ 0
 not-refused c = via (c .before .window .ensures) (c .if1 .left)
 
 from-checked-requires : tie.Need-from-checked-requires
-from-checked-requires c κs = window-accepted _ _ _ _ (not-refused c) .sides .file
+from-checked-requires c κs = window-accepted _ _ _ _ _ (not-refused c) .sides .file
 
 coder-of : (c : tie.After-from-checked) → CoderOf (c .from-checked .result) (now (c .before .before .before .before .before .args .file))
-coder-of c = record { is = c .from-checked .ensures; file = window-accepted _ _ _ _ (not-refused (c .before)) .sides .file }
+coder-of c = record { is = c .from-checked .ensures; file = window-accepted _ _ _ _ _ (not-refused (c .before)) .sides .file }
 
 by-key-requires : tie.Need-by-key-requires
 by-key-requires c κs = keys-of (coder-of (c .before .before))
@@ -38,7 +39,7 @@ decode-requires c κs =
     let a = k .before .before .before .before .before .args in
     let h = coder-of k in
     let s = sound-of h in
-    let r = window-accepted _ _ _ _ (not-refused (k .before)) in (
+    let r = window-accepted _ _ _ _ _ (not-refused (k .before)) in (
       record { coder = _; is = arrays-of h (c .before .before .before .before .before .before .by-key .ensures) },
       (
         s .states-high,
@@ -58,7 +59,7 @@ returns-2 c =
       answer = c .decode .result;
       is = refl;
       right =
-          answer-right h (now (a .received)) (a .before) (omega (arith, window-accepted _ _ _ _ z .size))
+          answer-right h (now (a .received)) (a .before) (omega (arith, window-accepted _ _ _ _ _ z .size))
           (c .decode .ensures _ (arrays-of h (c .before .before .before .before .before .before .before .by-key .ensures)) refl);
     }
 

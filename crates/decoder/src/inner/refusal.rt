@@ -29,9 +29,9 @@ pub fn sides(file: &[u8], b: usize, a: usize) -> usize
     0
 }
 
-// The refusal of a single window, or 0.
-pub fn window(file: &[u8], b: usize, a: usize, received: &[u8]) -> usize
-    ensures { λ r. ⌜ r ≡ windowRefusal (now (file .entry)) b a (now (received .entry)) ⌝ }
+// The refusal of a single window, or 0. `fits` says whether all lent buffers are long enough.
+pub fn window(file: &[u8], b: usize, a: usize, received: &[u8], fits: bool) -> usize
+    ensures { λ r. ⌜ r ≡ windowRefusal (now (file .entry)) b a (now (received .entry)) fits ⌝ }
 {
     let k = sides(file, b, a);
     if k != 0 {
@@ -41,10 +41,14 @@ pub fn window(file: &[u8], b: usize, a: usize, received: &[u8]) -> usize
     if received.len() != n {
         return 9;
     }
-    if letters_below(byte(file, 5), received) {
-        0
+    if fits {
+        if letters_below(byte(file, 5), received) {
+            0
+        } else {
+            13
+        }
     } else {
-        13
+        11
     }
 }
 

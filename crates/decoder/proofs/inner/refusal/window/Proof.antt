@@ -1,4 +1,4 @@
--- `refusal::window` meets its contract: the refusals of the file and the sides, then 9 and 13 in order.
+-- `refusal::window` meets its contract: the refusals of the file and the sides, then 9, 11 and 13 in order.
 use mathlib.Core.Path.{_≡_}
 use native.Mathlib.Omega.{arith}
 use denote.Ref.{now}
@@ -31,18 +31,22 @@ unfolding windowRefusal
 returns-2 c = rw (not-refused (c .before)) (search tests)
 
 byte-requires : tie.Need-byte-requires
-byte-requires c κs = omega (arith, accepted _ (sides-accepted _ _ _ (not-refused (c .before)) .file))
+byte-requires c κs = omega (arith, accepted _ (sides-accepted _ _ _ (not-refused (c .before .before)) .file))
 
 letters-below-requires : tie.Need-letters-below-requires
 letters-below-requires c κs = search needs
 
 returns-3 : tie.Need-returns-3
 unfolding windowRefusal
-returns-3 c = rw (not-refused (c .before .before .before .before), ← (c .before .before .byte .ensures .0), via (c .before .letters-below .ensures) (c .if3 .taken)) (search tests)
+returns-3 c = rw (not-refused (c .before .before .before .before .before), c .before .before .before .if3 .taken, ← (c .before .before .byte .ensures .0), via (c .before .letters-below .ensures) (c .if4 .taken)) (search tests)
 
 returns-4 : tie.Need-returns-4
 unfolding windowRefusal
-returns-4 c = rw (not-refused (c .before .before .before .before), ← (c .before .before .byte .ensures .0), via (c .before .letters-below .ensures) (c .if3 .left)) (search tests)
+returns-4 c = rw (not-refused (c .before .before .before .before .before), c .before .before .before .if3 .taken, ← (c .before .before .byte .ensures .0), via (c .before .letters-below .ensures) (c .if4 .left)) (search tests)
+
+returns-5 : tie.Need-returns-5
+unfolding windowRefusal
+returns-5 c = rw (not-refused (c .before .before), c .if3 .left) (search tests)
 
 pub window-spec : {M : Type 1} → statement M
 window-spec =
@@ -56,4 +60,5 @@ window-spec =
     byte-requires
     letters-below-requires
     returns-3
-    returns-4)
+    returns-4
+    returns-5)

@@ -1,0 +1,131 @@
+-- The promises of the calls from C ("What the part does": such a call returns the refusal's number or 0, and writes its results into
+-- one more lent buffer of at least 64 bytes). Each says by the definitions of the library's own call what the number, every other lent
+-- buffer and the result buffer are; upon refusal all buffers stay.
+use Prim.Native.Nat.{ℕ, _+_}
+use mathlib.Core.Path.{_≡_}
+use mathlib.Core.Bool.{Bool}
+use mathlib.Core.List.{List, [], _∷_, _++_}
+use lib.ListN.{length, drop}
+use lib.Dec.{leb}
+use Rattle.mealy.specs.Machine.{outs, end}
+use Rattle.mealy.specs.Setting.{Setting}
+use Rattle.mealy.specs.Answer.{byteOf}
+use Rattle.mealy.specs.LoopedPair.{LoopedPair, Valid}
+use Rattle.coder.specs.Refusal.{both, answer, upon, Judges}
+use Rattle.coder.specs.File.{outputsOf, machineOf, settingOf}
+use Rattle.coder.specs.Run.{runRefusal}
+use Rattle.pass.specs.Answer.{meaning, Right}
+use Rattle.pass.specs.declared.Answer.{Answer}
+use Rattle.decoder.specs.Written.{Written}
+use Rattle.decoder.specs.Refusal.{windowRefusal, stringRefusal, tableRefusal, tableSize}
+use Rattle.decoder.specs.Places.{places, ByteAt}
+use Rattle.decoder.specs.Table.{EntryAt}
+use Rattle.search.specs.Search.{searchRefusal, wanted, Says}
+use Rattle.search.specs.declared.Verdict.{Verdict}
+use Rattle.checker.specs.Check.{checkRefusal}
+use Rattle.lowhenita.specs.Layout.{withFields, verdictFields, numberOf}
+
+-- The result buffer has at least 64 bytes; shorter is refusal 11, in its place among the refusals.
+abbrev pub roomy : List ℕ → Bool
+roomy result = leb 64 (length result)
+
+-- ---- the coder run
+
+abbrev pub runNumber : List ℕ → ℕ → List ℕ → List ℕ → List ℕ → ℕ
+runNumber f s xs before result = runRefusal f s xs (both (leb (length xs) (length before)) (roomy result))
+
+-- Demand 2, first sentence, for a host: an output letter for each input letter; field 0 is the number of letters written and field 1 the
+-- end state ("Numbers of refusal", the sentence on counts).
+pub record RunHosted (f : List ℕ) (s : ℕ) (xs before result : List ℕ) (r : ℕ) (after result′ : List ℕ) : Type 0 where
+  pub number : r ≡ runNumber f s xs before result
+  pub bytes : after ≡ answer (runNumber f s xs before result) (λ k. before) (outs (machineOf f) s xs ++ drop (length xs) before)
+  pub fields :
+      result′ ≡
+      answer (runNumber f s xs before result) (λ k. result) (withFields result (length xs ∷ end (machineOf f) s xs ∷ []))
+
+-- ---- the window search
+
+abbrev pub searchNumber : List ℕ → List ℕ → List ℕ → ℕ
+searchNumber f before result = searchRefusal f (both (leb wanted (length before)) (roomy result))
+
+-- the lent buffers as they were
+pub record BothStay (before result after result′ : List ℕ) : Type 0 where
+  pub bytes : after ≡ before
+  pub fields : result′ ≡ result
+
+-- There is a verdict that says what the search's own verdict says on these buffers, and the fields are its layout.
+pub record VerdictGiven (S : Setting) (before result after result′ : List ℕ) : Type 0 where
+  pub verdict : Verdict
+  pub says : Says S verdict before after
+  pub fields : result′ ≡ withFields result (verdictFields verdict)
+
+-- Demand 3 for a host ("Coders and runs", last sentence: the call hands on the search's answer): field 0 is 0 for a window, whose sides
+-- are fields 1 and 2, and 1 for a looped pair, whose start states and lengths are fields 1 to 6, and whose letters lie in the lent
+-- buffer. Which looped pair is given is left open, here as in the search; all else is determined.
+pub record SearchHosted (f before result : List ℕ) (r : ℕ) (after result′ : List ℕ) : Type 0 where
+  pub number : r ≡ searchNumber f before result
+  pub outcome :
+      upon (searchNumber f before result) (λ k. BothStay before result after result′)
+      (VerdictGiven (settingOf f) before result after result′)
+
+-- ---- the string decoder
+
+abbrev pub decodeNumber : List ℕ → ℕ → ℕ → List ℕ → List ℕ → List ℕ → ℕ
+decodeNumber f b a w before result = stringRefusal f b a w (both (leb (places (length w) b a) (length before)) (roomy result))
+
+-- "Decoding", the sentence on strings, for a host: a right byte for each place with a full window; field 0 is the number of bytes
+-- written.
+pub record DecodeHosted (f : List ℕ) (b a : ℕ) (w before result : List ℕ) (r : ℕ) (after result′ : List ℕ) : Type 0 where
+  pub number : r ≡ decodeNumber f b a w before result
+  pub bytes :
+      upon (decodeNumber f b a w before result) (λ k. after ≡ before)
+      (Written (ByteAt (settingOf f) w b a) (places (length w) b a) before after)
+  pub fields :
+      result′ ≡ answer (decodeNumber f b a w before result) (λ k. result) (withFields result (places (length w) b a ∷ []))
+
+-- ---- the checker of looped pairs
+
+abbrev pub checkNumber : List ℕ → LoopedPair → List ℕ → ℕ
+checkNumber f p result = checkRefusal f p (roomy result)
+
+-- There is a yes or a no that judges the pair, and field 0 is its number.
+pub record JudgementGiven (f : List ℕ) (p : LoopedPair) (result result′ : List ℕ) : Type 0 where
+  pub judgement : Bool
+  pub judges : Judges (Valid (settingOf f) p) judgement
+  pub fields : result′ ≡ withFields result (numberOf judgement ∷ [])
+
+-- "Looped pair", the sentence on the checker, for a host: field 0 is 1 for a valid pair and 0 for any other.
+pub record CheckHosted (f : List ℕ) (p : LoopedPair) (result : List ℕ) (r : ℕ) (result′ : List ℕ) : Type 0 where
+  pub number : r ≡ checkNumber f p result
+  pub outcome : upon (checkNumber f p result) (λ k. result′ ≡ result) (JudgementGiven f p result result′)
+
+-- ---- one window
+
+abbrev pub windowNumber : List ℕ → ℕ → ℕ → List ℕ → List ℕ → ℕ
+windowNumber f b a w result = windowRefusal f b a w (roomy result)
+
+-- There is a right answer, and field 0 is its byte.
+pub record AnswerGiven (f : List ℕ) (b : ℕ) (w result result′ : List ℕ) : Type 0 where
+  pub answer : Answer
+  pub right : Right (settingOf f) w b answer
+  pub fields : result′ ≡ withFields result (byteOf (meaning answer) ∷ [])
+
+-- Demand 2, second sentence, for a host: field 0 is the letter that alone fits, 254 for "none" or 255 for "several" ("Decoding", third
+-- sentence).
+pub record WindowHosted (f : List ℕ) (b a : ℕ) (w result : List ℕ) (r : ℕ) (result′ : List ℕ) : Type 0 where
+  pub number : r ≡ windowNumber f b a w result
+  pub outcome : upon (windowNumber f b a w result) (λ k. result′ ≡ result) (AnswerGiven f b w result result′)
+
+-- ---- the decoder table
+
+abbrev pub tableNumber : List ℕ → ℕ → ℕ → List ℕ → List ℕ → ℕ
+tableNumber f b a before result = tableRefusal f b a (both (leb (tableSize (outputsOf f) b a) (length before)) (roomy result))
+
+-- "Decoding", the sentences on the table, for a host: a right byte at each index; field 0 is the table's size.
+pub record TableHosted (f : List ℕ) (b a : ℕ) (before result : List ℕ) (r : ℕ) (after result′ : List ℕ) : Type 0 where
+  pub number : r ≡ tableNumber f b a before result
+  pub bytes :
+      upon (tableNumber f b a before result) (λ k. after ≡ before)
+      (Written (EntryAt (settingOf f) (outputsOf f) (b + 1 + a) b) (tableSize (outputsOf f) b a) before after)
+  pub fields :
+      result′ ≡ answer (tableNumber f b a before result) (λ k. result) (withFields result (tableSize (outputsOf f) b a ∷ []))

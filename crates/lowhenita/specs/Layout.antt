@@ -1,0 +1,35 @@
+-- The layout of the result buffer, which docs/c-interface.md describes.
+use Prim.Native.Nat.{ℕ, _*_, _/_, _%_}
+use mathlib.Core.Bool.{Bool}
+use mathlib.Core.List.{List, [], _∷_, _++_}
+use lib.ListN.{length, drop}
+use Rattle.coder.specs.Refusal.{pick}
+use Rattle.search.specs.declared.Verdict.{Verdict}
+use Rattle.search.specs.declared.Verdict.the-variants.{Least, NoDecoder}
+
+-- A number in 8 bytes, big-endian: the digits to base 256, the highest first.
+abbrev pub field : ℕ → List ℕ
+field x =
+    x / 72057594037927936 % 256 ∷ x / 281474976710656 % 256 ∷ x / 1099511627776 % 256 ∷ x / 4294967296 % 256 ∷ x / 16777216 % 256 ∷
+    x / 65536 % 256 ∷ x / 256 % 256 ∷ x % 256 ∷ []
+
+-- The fields of some numbers, one after the other: field k stands at bytes 8 k to 8 k + 7.
+unfoldable pub fieldsOf : List ℕ → List ℕ
+fieldsOf [] = []
+fieldsOf (n ∷ ns) = field n ++ fieldsOf ns
+
+-- A result buffer with numbers in its first fields; the bytes past them stay ("Numbers of refusal", the sentence on bytes past what is
+-- written).
+abbrev pub withFields : List ℕ → List ℕ → List ℕ
+withFields result ns = fieldsOf ns ++ drop (8 * length ns) result
+
+-- The fields of a verdict ("Looped pair", the sentence on the verdict): its kind, then a window's two sides, or a looped pair's start
+-- states and four lengths.
+abbrev pub verdictFields : Verdict → List ℕ
+verdictFields (Least w) = 0 ∷ w .before ∷ w .after ∷ []
+verdictFields (NoDecoder p) =
+    1 ∷ p .s ∷ p .t ∷ p .«back_loop» ∷ p .«lead_in» ∷ p .«lead_out» ∷ p .«forward_loop» ∷ []
+
+-- The number of a yes or a no.
+abbrev pub numberOf : Bool → ℕ
+numberOf b = pick {A = ℕ} b 1 0

@@ -1,0 +1,3 @@
+-- What the contracts of the calls from C cite.
+pub mod Layout
+pub mod Host

@@ -1,0 +1,159 @@
+-- From what the reader and the search say to the report's lines.
+use mathlib.Core.Path.{_≡_, refl, sym, _∙_}
+use mathlib.Core.Bool.{Bool, true, false, not}
+use mathlib.Core.List.{List, _++_}
+use Prim.Native.Nat.{ℕ, zero, suc, _+_, _*_, _-_, _<_, _≤_}
+use native.Mathlib.Omega.{arith}
+use lib.ListN.{length}
+use lib.Dec.{ltb, leb, eqb}
+use borrow.Author.Tests.{le-leb}
+use Rattle.mealy.specs.Product.{pairs}
+use Rattle.coder.specs.Refusal.{refuse, first, answer, allBelow}
+use Rattle.coder.specs.File.{versionOf, countField, inRange, entryInRange, headerRefusal, fileRefusal, headerOf, statesOf, inputsOf, outputsOf, machineOf, settingOf}
+use Rattle.coder.specs.declared.Header.{Header}
+use Rattle.coder.specs.declared.Header.the-variants.{Refused, Counts}
+use Rattle.coder.proofs.Refusals.{upon-refused, upon-done}
+use Rattle.coder.proofs.Accepted.{accepted}
+use Rattle.product.proofs.Depths.{pairs-high}
+use Rattle.least.specs.declared.Window.{Window}
+use Rattle.loops.specs.declared.LoopedPair.{LoopedPair}
+use Rattle.search.specs.Search.{searchRefusal, wanted, Says, WindowReport, PairReport, FoundVerdict, SearchPromise}
+use Rattle.search.specs.declared.SearchResult.{SearchResult}
+use Rattle.search.specs.declared.SearchResult.the-variants.{Refused as RefusedSearch, Found}
+use Rattle.search.specs.declared.Verdict.{Verdict}
+use Rattle.search.specs.declared.Verdict.the-variants.{Least, NoDecoder}
+use Rattle.report_text.specs.Report.{refusedText, coderLine, windowLine, noDecoderLine, TwoLines, ReportPromise}
+use Rattle.report_text.specs.Report.SecondLine.{a-window, no-window}
+
+-- ---- the reader
+
+-- no refusal of a file is above 6
+refuse-small : (t : Bool) (k x : ℕ) → k ≤ 6 → x ≤ 6 → refuse t k x ≤ 6
+refuse-small true k x l m = l
+refuse-small false k x l m = m
+
+first-small : (a b : ℕ) → a ≤ 6 → b ≤ 6 → first a b ≤ 6
+first-small zero b l m = m
+first-small (suc a) b l m = l
+
+header-small : (len version count n i o : ℕ) → headerRefusal len version count n i o ≤ 6
+unfolding headerRefusal
+header-small len version count n i o =
+    refuse-small (ltb len 6) 1 _ (omega arith)
+    (refuse-small (not (eqb version 1)) 2 _ (omega arith)
+    (refuse-small (not (eqb count (len - 3))) 3 _ (omega arith)
+    (refuse-small (not (inRange n i o)) 4 _ (omega arith)
+    (refuse-small (not (eqb count (3 + 2 * (n * i)))) 5 0 (omega arith) (omega arith)))))
+
+pub refusal-small : (f : List ℕ) → fileRefusal f ≤ 6
+unfolding fileRefusal
+refusal-small f =
+    first-small (headerRefusal (length f) (versionOf f) (countField f) (statesOf f) (inputsOf f) (outputsOf f)) _
+    (header-small (length f) (versionOf f) (countField f) (statesOf f) (inputsOf f) (outputsOf f))
+    (refuse-small (not (allBelow (statesOf f * inputsOf f) (entryInRange f))) 6 0 (omega arith) (omega arith))
+
+pub record HeaderRefused (f : List ℕ) (k : ℕ) : Type 0 where
+  pub by : k ≡ fileRefusal f
+  pub some : k ≡ 0 → ⊥
+
+pub header-refused : (f : List ℕ) {h : Header} {k : ℕ} → h ≡ headerOf f → h ≡ Refused k → HeaderRefused f k
+header-refused f {h} {k} e d = go (fileRefusal f) refl (sym e ∙ d)
+  where
+    go :
+        (n : ℕ) → fileRefusal f ≡ n → answer n (λ j. Refused j) (Counts (statesOf f) (inputsOf f) (outputsOf f)) ≡ Refused k →
+        HeaderRefused f k
+    go zero q p = let z : _≡_ {A = ℕ} 0 1 = cc in absurd (omega arith)
+    go (suc n) q p = let z : suc n ≡ k = cc in record { by = sym z ∙ sym q; some = λ y. omega arith }
+
+pub refused-short : (f : List ℕ) {h : Header} {k : ℕ} → h ≡ headerOf f → h ≡ Refused k → k < 1000
+refused-short f e d = let r = header-refused f e d in omega (arith, r .by, refusal-small f)
+
+pub record HeaderCounts (f : List ℕ) (n i o : ℕ) : Type 0 where
+  pub none : fileRefusal f ≡ 0
+  pub states : n ≡ statesOf f
+  pub inputs : i ≡ inputsOf f
+  pub outputs : o ≡ outputsOf f
+
+pub header-counts : (f : List ℕ) {h : Header} {n i o : ℕ} → h ≡ headerOf f → h ≡ Counts n i o → HeaderCounts f n i o
+header-counts f {h} {n} {i} {o} e d = go (fileRefusal f) refl (sym e ∙ d)
+  where
+    go :
+        (m : ℕ) → fileRefusal f ≡ m → answer m (λ j. Refused j) (Counts (statesOf f) (inputsOf f) (outputsOf f)) ≡ Counts n i o →
+        HeaderCounts f n i o
+    go zero q p = record { none = q; states = cc; inputs = cc; outputs = cc }
+    go (suc m) q p = let z : _≡_ {A = ℕ} 0 1 = cc in absurd (omega arith)
+
+pub counts-short :
+    (f : List ℕ) {h : Header} {n i o : ℕ} → h ≡ headerOf f → h ≡ Counts n i o → (n < 1000) × (i < 1000) × (o < 1000)
+counts-short f e d =
+    let c = header-counts f e d in
+    let l = accepted f (c .none) .header .limits in
+    (omega (arith, c .states, l .states-high), omega (arith, c .inputs, l .inputs-high), omega (arith, c .outputs, l .outputs-high))
+
+-- ---- the report
+
+pub report-refused :
+    (f : List ℕ) {h : Header} {k : ℕ} {text : List ℕ} → h ≡ headerOf f → h ≡ Refused k → text ≡ refusedText k →
+    ReportPromise f text
+report-refused f e d p = let r = header-refused f e d in upon-refused _ _ _ (r .by) (r .some) p
+
+pub report-accepted :
+    (f : List ℕ) {h : Header} {n i o : ℕ} {line text : List ℕ} → h ≡ headerOf f → h ≡ Counts n i o → line ≡ coderLine n i o →
+    TwoLines (settingOf f) line text → ReportPromise f text
+report-accepted f {h} {n} {i} {o} {line} {text} e d p b =
+    let c = header-counts f e d in
+    let q : line ≡ coderLine (statesOf f) (inputsOf f) (outputsOf f) = rw (← c .states, ← c .inputs, ← c .outputs) p in
+    upon-done _ _ _ (c .none) (rw q at b)
+
+-- ---- the search, with a buffer of 1,026 bytes on an accepted file: never refused
+
+module _ (f before after : List ℕ) (ok : fileRefusal f ≡ 0) (long : 1026 ≡ length before) where
+  not-refused : searchRefusal f (leb wanted (length before)) ≡ 0
+  unfolding searchRefusal
+  not-refused = let l : wanted ≤ length before = omega arith in rw (ok, le-leb wanted (length before) l)
+
+  found : {r : SearchResult} → SearchPromise f before r after → FoundVerdict (settingOf f) r before after
+  found p = rw not-refused at p
+
+  pub never-refused : {r : SearchResult} {k : ℕ} → SearchPromise f before r after → r ≡ RefusedSearch k → ⊥
+  never-refused p e = let g = found p in let d = g .is in let z : _≡_ {A = ℕ} 0 1 = cc in absurd (omega arith)
+
+  says : {r : SearchResult} {v : Verdict} → SearchPromise f before r after → r ≡ Found v → Says (settingOf f) v before after
+  says {r} {v} p e =
+      let g = found p in
+      let d = g .is in
+      let z : v ≡ g .verdict = cc in
+      rw z (g .says)
+
+  window-found :
+      {r : SearchResult} {v : Verdict} {w : Window} → SearchPromise f before r after → r ≡ Found v → v ≡ Least w →
+      WindowReport (settingOf f) w before after
+  window-found p e d = rw d at (says p e)
+
+  pair-found :
+      {r : SearchResult} {v : Verdict} {q : LoopedPair} → SearchPromise f before r after → r ≡ Found v → v ≡ NoDecoder q →
+      PairReport (settingOf f) q before after
+  pair-found p e d = rw d at (says p e)
+
+  states-are : machineOf f .states ≡ statesOf f
+  unfolding machineOf
+  states-are = refl
+
+  pub window-short :
+      {r : SearchResult} {v : Verdict} {w : Window} → SearchPromise f before r after → r ≡ Found v → v ≡ Least w →
+      (w .before < 1000) × (w .after < 1000)
+  window-short p e d =
+      let high : pairs (machineOf f .states) ≤ 136 = rw states-are (pairs-high (statesOf f) (accepted f ok .header .limits .states-high)) in
+      let w = window-found p e d in
+      (omega (arith, w .before-small), omega (arith, w .after-small))
+
+  pub window-behind :
+      {r : SearchResult} {v : Verdict} {w : Window} {line text : List ℕ} → SearchPromise f before r after → r ≡ Found v →
+      v ≡ Least w → text ≡ line ++ windowLine (w .before) (w .after) → TwoLines (settingOf f) line text
+  window-behind {r} {v} {w} p e d q =
+      record { second = windowLine (w .before) (w .after); right = a-window _ _ (window-found p e d .least); is = q }
+
+  pub no-decoder-behind :
+      {r : SearchResult} {v : Verdict} {w : LoopedPair} {line text : List ℕ} → SearchPromise f before r after → r ≡ Found v →
+      v ≡ NoDecoder w → text ≡ line ++ noDecoderLine → TwoLines (settingOf f) line text
+  no-decoder-behind p e d q = record { second = noDecoderLine; right = no-window (pair-found p e d .none); is = q }

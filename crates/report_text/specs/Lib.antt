@@ -1,0 +1,3 @@
+-- What the contracts of the report's text cite.
+pub mod Report
+pub mod Text

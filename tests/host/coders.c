@@ -1,0 +1,308 @@
+/* Coder files: examples, numbered, random, chains. */
+#include "coders.h"
+
+#include <string.h>
+
+/* ---- random numbers ---- */
+
+static uint64_t random_state;
+
+void random_seed(uint64_t seed)
+{
+    random_state = seed;
+}
+
+static uint64_t random_word(void)
+{
+    random_state ^= random_state >> 12;
+    random_state ^= random_state << 25;
+    random_state ^= random_state >> 27;
+    return random_state * UINT64_C(2685821657736338717);
+}
+
+size_t random_below(size_t limit)
+{
+    return (size_t)((random_word() >> 16) % limit);
+}
+
+/* ---- files ---- */
+
+static void begin_file(coder_file *f, size_t states, size_t inputs, size_t outputs)
+{
+    size_t count = 3 + 2 * states * inputs;
+
+    memset(f, 0, sizeof *f);
+    f->len = count + 3;
+    f->bytes[0] = 1;
+    f->bytes[1] = (uint8_t)(count / 256);
+    f->bytes[2] = (uint8_t)(count % 256);
+    f->bytes[3] = (uint8_t)states;
+    f->bytes[4] = (uint8_t)inputs;
+    f->bytes[5] = (uint8_t)outputs;
+}
+
+static void put_entry(coder_file *f, size_t state, size_t input, size_t next, size_t output)
+{
+    size_t at = 6 + 2 * (state * f->bytes[4] + input);
+
+    f->bytes[at] = (uint8_t)next;
+    f->bytes[at + 1] = (uint8_t)output;
+}
+
+/* ---- examples ---- */
+
+typedef struct example_row {
+    char name;
+    uint8_t counts[3];
+    uint8_t entries[16];
+    int pair;
+    size_t before, after;
+} example_row;
+
+static const example_row rows[EXAMPLES] = {
+    {'A', {2, 2, 2}, {0, 0, 1, 1, 1, 1, 0, 0}, 0, 1, 0},
+    {'B', {1, 2, 2}, {0, 0, 0, 1}, 0, 0, 0},
+    {'C', {1, 2, 1}, {0, 0, 0, 0}, 1, 0, 0},
+    {'D', {2, 2, 2}, {0, 0, 1, 0, 0, 1, 1, 1}, 0, 0, 1},
+    {'E', {2, 2, 2}, {0, 0, 1, 1, 0, 1, 1, 0}, 1, 0, 0},
+    {'F', {3, 2, 4}, {1, 0, 2, 0, 1, 0, 1, 1, 2, 2, 2, 3}, 0, 1, 0},
+    {'G', {4, 2, 6}, {1, 4, 1, 5, 2, 0, 3, 0, 2, 0, 2, 1, 3, 2, 3, 3}, 0, 0, 1},
+    {'H', {2, 2, 2}, {0, 0, 0, 1, 1, 0, 1, 0}, 1, 0, 0}
+};
+
+void make_example(size_t k, example *e)
+{
+    const example_row *r = &rows[k];
+
+    e->name = r->name;
+    e->pair = r->pair;
+    e->before = r->before;
+    e->after = r->after;
+    begin_file(&e->file, r->counts[0], r->counts[1], r->counts[2]);
+    memcpy(e->file.bytes + 6, r->entries, e->file.len - 6);
+}
+
+/* ---- numbered coders ---- */
+
+size_t coders_with(size_t states, size_t inputs, size_t outputs)
+{
+    size_t count = 1, k;
+
+    for (k = 0; k < states * inputs; k++)
+        count *= states * outputs;
+    return count;
+}
+
+void make_numbered(coder_file *f, size_t states, size_t inputs, size_t outputs, size_t number)
+{
+    size_t k;
+
+    begin_file(f, states, inputs, outputs);
+    for (k = 0; k < states * inputs; k++) {
+        put_entry(f, k / inputs, k % inputs, number % states, number / states % outputs);
+        number /= states * outputs;
+    }
+}
+
+/* ---- random coders ---- */
+
+static void random_entry(coder_file *f, size_t state, size_t input)
+{
+    put_entry(f, state, input, random_below(f->bytes[3]), random_below(f->bytes[5]));
+}
+
+/* Every letter of a state has an output of its own. */
+static void separate_outputs(coder_file *f, size_t state)
+{
+    size_t first = random_below(f->bytes[5]), i;
+
+    for (i = 0; i < f->bytes[4]; i++)
+        put_entry(f, state, i, random_below(f->bytes[3]), (first + i) % f->bytes[5]);
+}
+
+/* The state keeps the latest letters; the output is the same for all letters of a state. */
+static void shift_register(coder_file *f)
+{
+    size_t states = f->bytes[3], inputs = f->bytes[4], s, i;
+
+    for (s = 0; s < states; s++) {
+        size_t output = random_below(f->bytes[5]);
+
+        for (i = 0; i < inputs; i++)
+            put_entry(f, s, i, (s * inputs + i) % states, output);
+    }
+}
+
+/* The output is a sum, as in a running parity. */
+static void running_sum(coder_file *f)
+{
+    size_t states = f->bytes[3], outputs = f->bytes[5], factor = 1 + random_below(4), s, i;
+
+    for (s = 0; s < states; s++)
+        for (i = 0; i < f->bytes[4]; i++)
+            put_entry(f, s, i, (s * factor + i) % states, (s + i) % outputs);
+}
+
+void make_random(coder_file *f, size_t states, size_t inputs, size_t outputs)
+{
+    size_t kind = random_below(8), s, i;
+
+    begin_file(f, states, inputs, outputs);
+    for (s = 0; s < states; s++)
+        for (i = 0; i < inputs; i++)
+            random_entry(f, s, i);
+    if (kind >= 3 && kind <= 4)
+        for (s = 0; s < states; s++)
+            separate_outputs(f, s);
+    if (kind == 5)
+        shift_register(f);
+    if (kind == 6)
+        running_sum(f);
+    if (kind == 7) {
+        shift_register(f);
+        change_entry(f);
+    }
+}
+
+void change_entry(coder_file *f)
+{
+    random_entry(f, random_below(f->bytes[3]), random_below(f->bytes[4]));
+}
+
+/* ---- chains ---- */
+
+/* Output letters of all chains: 0 for the shift, d for turn d; the padding comes after. */
+enum { NO_ENTRY = 255 };
+
+size_t chain_pairs(size_t states, size_t turns)
+{
+    size_t pairs = 0, apart;
+
+    for (apart = 1; apart <= turns + 1; apart++)
+        pairs += states - apart;
+    return pairs;
+}
+
+/* Shifts under letter 0, turn d under letter d, left out where d is skipped; no other entries. */
+static void begin_chain(coder_file *f, size_t states, size_t inputs, size_t turns, size_t skipped)
+{
+    size_t s, d;
+
+    begin_file(f, states, inputs, 64);
+    memset(f->bytes + 6, NO_ENTRY, f->len - 6);
+    for (s = 0; s + 1 < states; s++)
+        put_entry(f, s, 0, s + 1, 0);
+    for (d = 1; d <= turns; d++)
+        if (d != skipped) {
+            put_entry(f, states - 1 - d, d, 0, d);
+            put_entry(f, states - 1, d, d + 1, d);
+        }
+}
+
+static int is_free(const coder_file *f, size_t state, size_t input)
+{
+    return f->bytes[6 + 2 * (state * f->bytes[4] + input)] == NO_ENTRY;
+}
+
+
+/* Fills the free entries of a state with one output, to states 0, apart, 2 apart and so on. */
+static void pad_with_own_output(coder_file *f, size_t state, size_t output, size_t apart)
+{
+    size_t to = 0, i;
+
+    for (i = 0; i < f->bytes[4]; i++)
+        if (is_free(f, state, i)) {
+            put_entry(f, state, i, to, output);
+            to += apart;
+        }
+}
+
+/* The same for every state, each with an output of its own, to states 0, 1, 2 and so on. */
+static void pad_with_own_outputs(coder_file *f, size_t output)
+{
+    size_t s;
+
+    for (s = 0; s < f->bytes[3]; s++)
+        pad_with_own_output(f, s, output + s, 1);
+    f->bytes[5] = (uint8_t)(output + f->bytes[3]);
+}
+
+/* Fills the free entries so that all states have the same under one letter: runs join. */
+static void pad_joining(coder_file *f, size_t output)
+{
+    size_t s, i;
+
+    for (s = 0; s < f->bytes[3]; s++)
+        for (i = 0; i < f->bytes[4]; i++)
+            if (is_free(f, s, i))
+                put_entry(f, s, i, 0, output + i);
+    f->bytes[5] = (uint8_t)(output + f->bytes[4]);
+}
+
+/* Fills the free entries of all states but the last with more shifts, an output for each letter:
+   no pair of states gets a new successor. */
+static void pad_shifting(coder_file *f, size_t output)
+{
+    size_t s, i;
+
+    for (s = 0; s + 1 < f->bytes[3]; s++)
+        for (i = 0; i < f->bytes[4]; i++)
+            if (is_free(f, s, i))
+                put_entry(f, s, i, s + 1, output + i);
+    f->bytes[5] = (uint8_t)(output + f->bytes[4]);
+}
+
+void make_forward_chain(coder_file *f, size_t states, size_t turns)
+{
+    begin_chain(f, states, turns + 2, turns, 0);
+    pad_with_own_outputs(f, turns + 1);
+}
+
+void make_backward_chain(coder_file *f, size_t states, size_t turns)
+{
+    begin_chain(f, states, turns + 2, turns, 0);
+    put_entry(f, states - 2 - turns, turns + 1, 0, turns + 1);
+    put_entry(f, states - 1, 0, 0, turns + 1);
+    pad_joining(f, turns + 2);
+}
+
+/* Runs join at the end of the first part under different letters; the padding of the last state
+   leads under different letters to the first pair of the second part. */
+void make_split_chain(coder_file *f, size_t states, size_t turns)
+{
+    begin_chain(f, states, states, states - 2, turns + 1);
+    put_entry(f, states - 1, turns + 1, 0, turns + 1);
+    put_entry(f, states - 2 - turns, states - 1, 0, turns + 1);
+    pad_with_own_output(f, states - 1, states - 1, turns + 2);
+    pad_shifting(f, states);
+}
+
+/* Closed from the last pair to (1, 0) under different letters. */
+static void begin_closed(coder_file *f, size_t states, size_t turns)
+{
+    begin_chain(f, states, turns == 0 ? 2 : turns + 1, turns, 0);
+    put_entry(f, states - 2 - turns, 1, 1, turns + 1);
+    put_entry(f, states - 1, 0, 0, turns + 1);
+}
+
+void make_closed_back(coder_file *f, size_t states, size_t turns)
+{
+    begin_closed(f, states, turns);
+    pad_joining(f, turns + 2);
+}
+
+void make_closed_both(coder_file *f, size_t states, size_t turns)
+{
+    begin_closed(f, states, turns);
+    pad_with_own_output(f, states - 1, turns + 2, 1);
+    pad_shifting(f, turns + 3);
+}
+
+/* Closed under one letter; the different letters lie in the padding. */
+void make_closed_forward(coder_file *f, size_t states, size_t turns)
+{
+    begin_chain(f, states, turns + 3, turns, 0);
+    put_entry(f, states - 2 - turns, turns + 1, 1, turns + 1);
+    put_entry(f, states - 1, turns + 1, 0, turns + 1);
+    pad_with_own_outputs(f, turns + 2);
+}

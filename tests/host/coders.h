@@ -1,0 +1,59 @@
+/* Coder files for the comparison: the examples, numbered and random coders, chains with long
+   windows, and the random numbers they come from. */
+#ifndef CODERS_H
+#define CODERS_H
+
+#include <stddef.h>
+#include <stdint.h>
+
+enum { MOST_FILE = 518 };
+
+typedef struct coder_file {
+    uint8_t bytes[MOST_FILE];
+    size_t len;
+} coder_file;
+
+/* Random numbers, the same for the same seed. */
+void random_seed(uint64_t seed);
+size_t random_below(size_t limit);
+
+/* An example coder with what is known of it; pair: no decoder. */
+typedef struct example {
+    char name;
+    coder_file file;
+    int pair;
+    size_t before, after;
+} example;
+
+enum { EXAMPLES = 8 };
+void make_example(size_t k, example *e);
+
+/* How many coders have these counts, and the one of a number below that. */
+size_t coders_with(size_t states, size_t inputs, size_t outputs);
+void make_numbered(coder_file *f, size_t states, size_t inputs, size_t outputs, size_t number);
+
+/* A random coder with these counts, of one of several kinds. */
+void make_random(coder_file *f, size_t states, size_t inputs, size_t outputs);
+
+/* One entry of the file made anew at random. */
+void change_entry(coder_file *f);
+
+/* The pairs of states on the chain {0, 1}, {1, 2}, ... that turns at the last state as long as the
+   two are at most turns + 1 apart. */
+size_t chain_pairs(size_t states, size_t turns);
+
+/* Window 0 p and window p 0 for a chain of p pairs; turns at most states - 2. */
+void make_forward_chain(coder_file *f, size_t states, size_t turns);
+void make_backward_chain(coder_file *f, size_t states, size_t turns);
+
+/* The chain of all pairs cut in two: window p q, p pairs up to the cut and q after it; turns at
+   most states - 3. */
+void make_split_chain(coder_file *f, size_t states, size_t turns);
+
+/* The chain of p pairs closed to a loop of 2p letters: no decoder. The back loop, the forward loop
+   (turns at most states - 3) or both have to go round it. */
+void make_closed_back(coder_file *f, size_t states, size_t turns);
+void make_closed_forward(coder_file *f, size_t states, size_t turns);
+void make_closed_both(coder_file *f, size_t states, size_t turns);
+
+#endif

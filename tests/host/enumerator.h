@@ -1,0 +1,96 @@
+/* The brute-force enumerator: runs, windows, pairs and refusals judged by enumeration from their
+   definitions. It shares no code and no method with the library it is compared with. */
+#ifndef ENUMERATOR_H
+#define ENUMERATOR_H
+
+#include <stddef.h>
+#include <stdint.h>
+
+enum {
+    MOST_STATES = 16,
+    MOST_INPUTS = 16,
+    MOST_OUTPUTS = 64,
+    MOST_SIDE = 136,
+    MOST_WINDOW = 2 * MOST_SIDE + 1,
+    MOST_TABLE = 65536,
+    SEARCH_BYTES = 1026,
+    RESULT_BYTES = 64
+};
+
+/* The coder of an accepted file: its three counts and its entries, two bytes each. */
+typedef struct coder {
+    size_t states, inputs, outputs;
+    const uint8_t *entries;
+} coder;
+
+/* Two runs in step; the letters are two bytes each, first run, second run. */
+typedef struct pair {
+    size_t s, t, back_loop, lead_in, lead_out, forward_loop;
+    const uint8_t *letters;
+} pair;
+
+enum call { CALL_RUN, CALL_SEARCH, CALL_DECODE, CALL_CHECK, CALL_WINDOW, CALL_TABLE, CALLS };
+
+/* The arguments of any of the six calls; a call looks only at those it is given. */
+typedef struct arguments {
+    enum call call;
+    const uint8_t *file;
+    size_t file_len;
+    size_t start;           /* run */
+    size_t before, after;   /* decode, window, table */
+    pair pair;              /* check, without its letters */
+    const uint8_t *bytes;   /* input of the run, letters of the check, received letters */
+    size_t bytes_len;
+    size_t lent_len;        /* output of run and decode, letters of the search, table */
+    size_t result_len;
+} arguments;
+
+/* Three answers: the enumeration may end at its allowance before it knows. */
+enum answer { NO, YES, UNKNOWN };
+
+/* The allowance of steps for the enumerations that follow, and whether it was used up. */
+void allow_steps(long steps);
+int steps_used_up(void);
+
+/* Files and refusals: 0 or the first number that applies. */
+size_t refusal_of_file(const uint8_t *file, size_t len);
+size_t refusal_of_call(const arguments *a);
+coder coder_of_file(const uint8_t *file);
+
+/* One entry. */
+size_t next_state(const coder *c, size_t state, size_t input);
+size_t output_letter(const coder *c, size_t state, size_t input);
+
+/* The run from a state: writes n output letters, returns the end state. */
+size_t follow_run(const coder *c, size_t start, const uint8_t *input, size_t n, uint8_t *output);
+
+/* All runs of n letters grouped by output string: fails[b] becomes 1 where two runs have equal
+   outputs and different letters at place b. Returns 0, with nothing said, where there are more
+   runs than given or more than 131,072 strings. */
+int fails_by_groups(const coder *c, size_t n, size_t most, uint8_t *fails);
+
+/* Whether the window works, by all pairs of runs around the present letter. */
+enum answer works_by_pairs(const coder *c, size_t before, size_t after);
+
+/* Whether a letter fits the received window, and the byte of a window. */
+enum answer letter_fits(const coder *c, size_t before, size_t after, const uint8_t *received,
+                        size_t letter);
+uint8_t window_byte(const coder *c, size_t before, size_t after, const uint8_t *received);
+
+/* Pairs, by following both runs. */
+int pair_valid(const coder *c, const pair *p);
+int pair_keeps_bounds(const coder *c, const pair *p);
+/* Turned: equal outputs everywhere and different letters at the marked place. */
+int turned_pair_confuses(const coder *c, const pair *p, size_t back, size_t forward);
+/* Cut from the turned pair: two runs of before + 1 + after letters that the window confuses. */
+int pair_refutes_window(const coder *c, const pair *p, size_t before, size_t after);
+
+/* What an accepted call other than the search writes, into copies of its lent buffers.
+   Returns 0 where the allowance did not suffice. */
+int expected_answer(const arguments *a, uint8_t *lent, uint8_t *result);
+
+/* Field k of a result: 8 bytes, big-endian. */
+void put_field(uint8_t *result, size_t k, uint64_t value);
+uint64_t get_field(const uint8_t *result, size_t k);
+
+#endif
