@@ -686,8 +686,12 @@ static void round_trip(const coder_file *f)
                      lent_fill(&lent_buffer, a.lent_len, 0), lent_fill(&result_buffer, a.result_len, 1));
     if (k != 0)
         differ("the round trip is refused with %zu", k);
-    else
-        same_bytes("the decoded string", &lent_buffer, input + a.before, a.lent_len);
+    memcpy(wanted_result, lent_pattern(1), a.result_len);
+    put_field(wanted_result, 0, a.lent_len);
+    same_bytes("the decoded string", &lent_buffer, input + a.before, a.lent_len);
+    same_bytes("the result", &result_buffer, wanted_result, a.result_len);
+    same_bytes("the file", &file_buffer, a.file, a.file_len);
+    same_bytes("the letters", &bytes_buffer, a.bytes, n);
 }
 
 /* ---- all arguments of small size ---- */
@@ -996,7 +1000,7 @@ static void edge_table(const coder_file *f)
 /* The tables of 65,536 bytes, in full. */
 static void edge_full_table(const coder_file *f, size_t before)
 {
-    static uint8_t wanted[MOST_TABLE];
+    static uint8_t wanted[MOST_TABLE + 1];
     arguments a = plain(CALL_TABLE, f);
     coder c = coder_of_file(f->bytes);
     uint8_t received[16];
@@ -1017,10 +1021,12 @@ static void edge_full_table(const coder_file *f, size_t before)
                         lent_fill(&lent_buffer, a.lent_len, 7), a.lent_len,
                         lent_fill(&result_buffer, RESULT_BYTES, 8), RESULT_BYTES) != 0)
         differ("the full table is refused");
-    known_value("the count", get_field(result_buffer.end - RESULT_BYTES, 0), MOST_TABLE);
-    known_value("the byte past the table", lent_buffer.end[-1], lent_pattern(7)[MOST_TABLE]);
-    known_value("the table's order",
-                (size_t)memcmp(lent_buffer.end - a.lent_len, wanted, MOST_TABLE), 0);
+    wanted[MOST_TABLE] = lent_pattern(7)[MOST_TABLE];
+    memcpy(wanted_result, lent_pattern(8), RESULT_BYTES);
+    put_field(wanted_result, 0, MOST_TABLE);
+    same_bytes("the table", &lent_buffer, wanted, a.lent_len);
+    same_bytes("the result", &result_buffer, wanted_result, RESULT_BYTES);
+    same_bytes("the file", &file_buffer, a.file, a.file_len);
 }
 
 /* Lengths whose sum, or twice whose sum, passes what a number holds. */

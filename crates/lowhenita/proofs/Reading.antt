@@ -51,4 +51,4 @@ place (n ∷ ns) rest (suc k) l =
 
 pub field-stands :
     (result ns : List ℕ) (k : ℕ) → k < length ns → take 8 (drop (8 * k) (withFields result ns)) ≡ field (getD ns k 0)
-field-stands result ns k l = place ns (drop (8 * length ns) result) k l
+field-stands result ns k l = place ns _ k l
