@@ -1,7 +1,7 @@
 # make test: the gate. make report: builds the program and runs it on an example. make lib: the static library for a host in C, with
 # include/lowhenita.h. make examples: the example host, run on an example. make install PREFIX=..: library, header, program, manual
-# page. make clean: removes what was built.
-.PHONY: test report lib examples install clean
+# page. make bench: the library beside plain C. make clean: removes what was built.
+.PHONY: test report lib examples install bench clean
 
 PREFIX = /usr/local
 VERSION = 1.0
@@ -29,6 +29,11 @@ install: lib report
 	install -m 644 man/report.1 $(DESTDIR)$(PREFIX)/share/man/man1/
 	printf 'prefix=%s\nName: lowhenita\nDescription: line coders, their least windows and decoders, proved\nVersion: %s\nCflags: -I$${prefix}/include\nLibs: -L$${prefix}/lib -llowhenita\n' \
 	  '$(PREFIX)' '$(VERSION)' > $(DESTDIR)$(PREFIX)/lib/pkgconfig/lowhenita.pc
+
+bench: lib
+	$(CC) -std=c99 -Wall -Wextra -Werror -O2 -Iinclude -Itests/host tests/bench/bench.c tests/bench/plain.c tests/host/coders.c \
+	  target/staticlib/liblowhenita.a -o target/bench
+	target/bench
 
 clean:
 	rm -rf target

@@ -1,0 +1,253 @@
+/* The benchmark: each call of the library beside the same work in plain C (plain.c), the two in turn, the
+   least of several timings of each. Before the timings the two must give equal results. Buffers are cleared
+   once before all timings, not between them. */
+#define _POSIX_C_SOURCE 199309L
+#include "coders.h"
+#include "lowhenita.h"
+#include "plain.h"
+
+#include <stdio.h>
+#include <stdlib.h>
+#include <string.h>
+#include <time.h>
+
+enum { TURNS = 15, LETTERS = 20000, TABLE = 65536 };
+
+static coder_file file;
+static uint8_t input[LETTERS], sent[LETTERS], mine[TABLE], theirs[TABLE];
+static uint8_t my_letters[1026], their_letters[1026], result[64];
+static size_t before, after, letters;
+static uint64_t field(int k)
+{
+    uint64_t x = 0;
+    int i;
+
+    for (i = 0; i < 8; i++)
+        x = x << 8 | result[8 * k + i];
+    return x;
+}
+
+static double now(void)
+{
+    struct timespec t;
+
+    clock_gettime(CLOCK_MONOTONIC, &t);
+    return t.tv_sec + t.tv_nsec * 1e-9;
+}
+
+static void unequal(const char *what)
+{
+    printf("%s: the library and the plain program differ\n", what);
+    exit(1);
+}
+
+/* ---- the work ---- */
+
+static size_t do_search(void)
+{
+    return lowhenita_search(file.bytes, file.len, my_letters, sizeof my_letters, result, sizeof result);
+}
+
+static plain_verdict verdict;
+
+static size_t do_plain_search(void)
+{
+    return plain_search(file.bytes, file.len, their_letters, sizeof their_letters, &verdict);
+}
+
+static size_t do_run(void)
+{
+    return lowhenita_run(file.bytes, file.len, 0, input, letters, mine, sizeof mine, result, sizeof result);
+}
+
+static size_t plain_count, plain_end;
+
+static size_t do_plain_run(void)
+{
+    return plain_run(file.bytes, file.len, 0, input, letters, theirs, sizeof theirs, &plain_count, &plain_end);
+}
+
+static size_t do_decode(void)
+{
+    return lowhenita_decode(file.bytes, file.len, before, after, sent, letters, mine, sizeof mine, result,
+                            sizeof result);
+}
+
+static size_t do_plain_decode(void)
+{
+    return plain_decode(file.bytes, file.len, before, after, sent, letters, theirs, sizeof theirs, &plain_count);
+}
+
+static size_t do_table(void)
+{
+    return lowhenita_table(file.bytes, file.len, before, after, mine, sizeof mine, result, sizeof result);
+}
+
+static size_t do_plain_table(void)
+{
+    return plain_table(file.bytes, file.len, before, after, theirs, sizeof theirs, &plain_count);
+}
+
+/* Seconds for `times` calls. */
+static double timed(size_t (*work)(void), int times)
+{
+    double from = now();
+    int k;
+
+    for (k = 0; k < times; k++)
+        if (work() != 0)
+            unequal("a call was refused");
+    return now() - from;
+}
+
+/* The two in turn; prints the time of a call, or the letters a second, and the ratio. */
+static void compare(const char *name, size_t (*library)(void), size_t (*plain)(void), size_t of)
+{
+    double l = 1e9, p = 1e9, x;
+    int turn, times;
+
+    for (times = 1; timed(library, times) < 0.004;)
+        times *= 2;
+    for (turn = 0; turn < TURNS; turn++) {
+        x = timed(library, times);
+        l = x < l ? x : l;
+        x = timed(plain, times);
+        p = x < p ? x : p;
+    }
+    printf("%-58s %10.2f us %10.2f us", name, l / times * 1e6, p / times * 1e6);
+    if (of)
+        printf(" %8.1f M/s", of * (double)times / l * 1e-6);
+    else
+        printf(" %12s", "");
+    printf("   ratio %.2f\n", l / p);
+    fflush(stdout);
+}
+
+static void bench_search(const char *name)
+{
+    if (do_search() != 0 || do_plain_search() != 0 || field(0) != (uint64_t)verdict.is_pair)
+        unequal(name);
+    if (!verdict.is_pair && (field(1) != verdict.before || field(2) != verdict.after))
+        unequal(name);
+    if (verdict.is_pair) {
+        size_t n = 2 * (verdict.back_loop + verdict.lead_in + 1 + verdict.lead_out + verdict.forward_loop);
+
+        printf("  (pairs of %lu and %lu letters)\n",
+               (unsigned long)(field(3) + field(4) + 1 + field(5) + field(6)), (unsigned long)n / 2);
+        if (lowhenita_check(file.bytes, file.len, verdict.s, verdict.t, verdict.back_loop, verdict.lead_in,
+                            verdict.lead_out, verdict.forward_loop, their_letters, n, result,
+                            sizeof result) != 0 || field(0) != 1)
+            unequal(name);
+    } else {
+        printf("  (window %lu %lu)\n", (unsigned long)verdict.before, (unsigned long)verdict.after);
+    }
+    compare(name, do_search, do_plain_search, 0);
+}
+
+static void bench_string(const char *name, size_t b, size_t a, size_t n)
+{
+    size_t k;
+
+    before = b;
+    after = a;
+    letters = n;
+    for (k = 0; k < n; k++)
+        input[k] = (uint8_t)random_below(file.bytes[4]);
+    if (do_run() != 0 || do_plain_run() != 0 || memcmp(mine, theirs, n) != 0 || field(1) != plain_end)
+        unequal(name);
+    memcpy(sent, mine, n);
+    if (do_decode() != 0 || do_plain_decode() != 0 || field(0) != plain_count ||
+        memcmp(mine, theirs, plain_count) != 0)
+        unequal(name);
+    compare(name, do_decode, do_plain_decode, n);
+}
+
+static void bench_run(const char *name)
+{
+    size_t k;
+
+    letters = LETTERS;
+    for (k = 0; k < letters; k++)
+        input[k] = (uint8_t)random_below(file.bytes[4]);
+    if (do_run() != 0 || do_plain_run() != 0 || memcmp(mine, theirs, letters) != 0 || field(1) != plain_end)
+        unequal(name);
+    compare(name, do_run, do_plain_run, letters);
+}
+
+static void bench_table(const char *name, size_t b, size_t a)
+{
+    before = b;
+    after = a;
+    if (do_table() != 0 || do_plain_table() != 0 || field(0) != plain_count ||
+        memcmp(mine, theirs, plain_count) != 0)
+        unequal(name);
+    compare(name, do_table, do_plain_table, plain_count);
+}
+
+/* Entries at random: next states and output letters all equally likely. */
+static void any_coder(size_t states, size_t inputs, size_t outputs)
+{
+    size_t k, count = 3 + 2 * states * inputs;
+
+    file.len = 3 + count;
+    file.bytes[0] = 1;
+    file.bytes[1] = (uint8_t)(count >> 8);
+    file.bytes[2] = (uint8_t)count;
+    file.bytes[3] = (uint8_t)states;
+    file.bytes[4] = (uint8_t)inputs;
+    file.bytes[5] = (uint8_t)outputs;
+    for (k = 6; k < file.len; k += 2) {
+        file.bytes[k] = (uint8_t)random_below(states);
+        file.bytes[k + 1] = (uint8_t)random_below(outputs);
+    }
+}
+
+static void example_a(void)
+{
+    example e;
+
+    make_example(0, &e);
+    file = e.file;
+}
+
+int main(void)
+{
+    size_t n;
+    char name[80];
+
+    random_seed(20261115);
+    printf("%-58s %13s %13s\n", "", "library", "plain C");
+    example_a();
+    bench_search("search: A");
+    for (n = 4; n <= 16; n += 4) {
+        any_coder(n, 16, 4);
+        sprintf(name, "search: random, %lu states, 16 inputs, 4 outputs", (unsigned long)n);
+        bench_search(name);
+    }
+    for (n = 4; n <= 16; n += 4) {
+        any_coder(16, n, 64);
+        sprintf(name, "search: random, 16 states, %lu inputs, 64 outputs", (unsigned long)n);
+        bench_search(name);
+    }
+    make_forward_chain(&file, 16, 14);
+    bench_search("search: chain, 16 states, long lookahead");
+    make_backward_chain(&file, 16, 14);
+    bench_search("search: chain, 16 states, many letters before");
+    make_closed_both(&file, 16, 13);
+    bench_search("search: closed chain, 16 states, long looped pair");
+
+    example_a();
+    bench_run("run: A, 20,000 letters");
+    bench_string("string: A, window 1 0", 1, 0, LETTERS);
+    bench_string("string: A, window 2 2", 2, 2, LETTERS);
+    bench_string("string: A, window 8 8", 8, 8, LETTERS);
+    bench_table("table: A, 65,536 bytes", 8, 7);
+    any_coder(16, 16, 64);
+    bench_run("run: 16 states, 16 inputs, 64 outputs, 20,000 letters");
+    bench_string("string: 16 states, 16 inputs, 64 outputs, window 1 0", 1, 0, LETTERS);
+    bench_string("string: 16 states, 16 inputs, 64 outputs, window 2 2", 2, 2, LETTERS);
+    bench_string("string: 16 states, 16 inputs, 64 outputs, window 8 8", 8, 8, LETTERS);
+    any_coder(16, 16, 16);
+    bench_table("table: 16 states, 16 inputs, 16 outputs, 65,536 bytes", 2, 1);
+    return 0;
+}

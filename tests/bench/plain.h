@@ -1,0 +1,28 @@
+/* The same work as the library's calls, in plain C as a programmer would write it: what the benchmark
+   measures the library against. */
+#ifndef PLAIN_H
+#define PLAIN_H
+
+#include <stddef.h>
+#include <stdint.h>
+
+/* Each returns 0 or the refusal's number, as the call of the library with the same name. */
+size_t plain_run(const uint8_t *file, size_t file_len, size_t start, const uint8_t *input,
+                 size_t input_len, uint8_t *output, size_t output_len, size_t *count, size_t *end);
+size_t plain_decode(const uint8_t *file, size_t file_len, size_t before, size_t after,
+                    const uint8_t *received, size_t received_len, uint8_t *output,
+                    size_t output_len, size_t *count);
+size_t plain_table(const uint8_t *file, size_t file_len, size_t before, size_t after,
+                   uint8_t *table, size_t table_len, size_t *count);
+
+/* The verdict: a window, or a looped pair with its letters in the lent buffer. */
+typedef struct plain_verdict {
+    int is_pair;
+    size_t before, after;
+    size_t s, t, back_loop, lead_in, lead_out, forward_loop;
+} plain_verdict;
+
+size_t plain_search(const uint8_t *file, size_t file_len, uint8_t *letters, size_t letters_len,
+                    plain_verdict *verdict);
+
+#endif
