@@ -1,14 +1,15 @@
 /* The comparison of the library with the enumerator: all six calls, every byte of every buffer.
    One line for each group of comparisons; the last line counts the groups.
 
-   A window that the search gives is tried, and so is every window with fewer letters, or as many
-   and less lookahead. Where it says "no decoder", its pair is followed, turned 0 to 3 times either
-   way, and every window up to N (N + 1) / 2 a side is tried. A window is tried by all runs of its
-   length, grouped by output string, as long as there are at most MOST_RUNS of them; beyond that by
-   all pairs of runs around its present letter, with PAIR_STEPS steps at most. Windows for which
-   that does not suffice are counted as left out. For larger coders the pair itself is cut to two
-   runs of the length of every window up to the bound, which are followed letter by letter. That a
-   larger window works where a smaller one does is used nowhere. */
+   A window that the search gives is tried. Where the search says "no decoder", its pair is followed,
+   turned 0 to 3 times either way. What is tried besides is set for each group (try_verdicts): every
+   window with fewer letters, or as many and less lookahead; or every window up to N (N + 1) / 2 a
+   side, in full for the examples, all small coders and the small random ones; or the pair cut to two
+   runs of the length of each of these windows, for every 40th of the large random coders and for part
+   of the chains. A window is tried by all runs of its length, grouped by output string, as long as
+   there are at most MOST_RUNS of them; beyond that by all pairs of runs around its present letter,
+   with PAIR_STEPS steps at most. Windows for which that does not suffice are counted as left out, and
+   do not fail a group. That a larger window works where a smaller one does is used nowhere. */
 #define _DEFAULT_SOURCE
 #include "coders.h"
 #include "enumerator.h"
