@@ -16,7 +16,7 @@ use Rattle.coder.proofs.Tables.{machine-same, sound-coder}
 use Rattle.chains.specs.Chain.{Keys, Chained}
 use Rattle.pass.specs.Answer.{meaning, Right, RightByte}
 use Rattle.mealy.specs.Setting.{flagged}
-use Rattle.pass.specs.Pass.{ArraysOf, startBytes, decoded}
+use Rattle.pass.specs.Pass.{ArraysOf, startSets, decoded}
 use Rattle.pass.specs.declared.Answer.{Answer}
 use Rattle.pass.proofs.Meaning.{decoded-right, all-flags, right-byte}
 use Rattle.coder.specs.File.{settingOf}
@@ -102,7 +102,7 @@ module _ {c : Coder} {f : List ℕ} (h : CoderOf c f) where
   -- a table, of which the first bytes were lent and are now ys
   pub table-right :
       {o n count : ℕ} {v before ys : List ℕ} (b a : ℕ) → o ≡ outputsOf f → n ≡ b + 1 + a →
-      count ≡ tableSize (outputsOf f) b a → count ≤ length before → v ≡ startBytes anyFlags →
+      count ≡ tableSize (outputsOf f) b a → count ≤ length before → v ≡ startSets anyFlags →
       Filled c o v n (b + 1) ys →
       Written (EntryAt (settingOf f) (outputsOf f) (b + 1 + a) b) (tableSize (outputsOf f) b a) before
       (ys ++ drop count before)

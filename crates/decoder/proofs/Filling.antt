@@ -60,14 +60,6 @@ power o (suc m) l =
     let e : suc m - 1 ≡ m = omega arith in
     rw (pow-suc, e)
 
-pub pred-is : {a : ℕ} (p : ℕ) → 0 < p → a ≡ p - 1 → a ≡ pred p
-pred-is zero l e = absurd (omega arith)
-pred-is (suc p) l e = omega arith
-
-pub pred-none : {a : ℕ} (p : ℕ) → p ≤ 0 → a ≡ 0 → a ≡ pred p
-pred-none zero l e = e
-pred-none (suc p) l e = absurd (omega arith)
-
 module _ {next last previous : List ℕ} {states outputs : ℕ} {v : List ℕ} {left present after : ℕ} {table : List ℕ}
   where
     pub filling-start :

@@ -93,7 +93,7 @@ pub fn table(file: &[u8], before: usize, after: usize, table: &mut [u8]) -> Coun
     let flags = [1u8; 16];
     let n = before + 1 + after;
     let count = inner::table::size(outputs, n);
-    let v = pass::inner::start_bytes(&flags);
+    let v = pass::inner::start_sets(&flags);
     inner::table::fill(
         &c.next,
         &chain.last,

@@ -1,5 +1,5 @@
 -- The laws of the pass over a window.
 pub mod Steps
-pub mod Sums
+pub mod Words
 pub mod Sets
 pub mod Meaning

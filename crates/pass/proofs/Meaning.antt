@@ -3,9 +3,10 @@ use mathlib.Core.Path.{_≡_, refl, sym, ap, ap₂, _∙_}
 use mathlib.Core.Bool.{Bool, true, false}
 use mathlib.Core.List.{List, [], _∷_}
 use mathlib.Core.Logic.{_≢_}
-use Prim.Native.Nat.{ℕ, zero, suc, pred, _<_, _≤_}
+use Prim.Native.Nat.{ℕ, zero, suc, pred, _-_, _^_, _<_, _≤_}
 use native.Mathlib.Omega.{arith}
 use lib.ListN.{length, getD, replicate, getD-replicate}
+use lib.Count.{leadingZeros}
 use lib.Dec.{eqb, lit<}
 use borrow.Author.Tests.{ne-eqb, eqb-true, eqb-false}
 use Rattle.mealy.specs.Machine.{Machine, outs, Letters}
@@ -17,12 +18,12 @@ use Rattle.coder.specs.Table.{machineOfCoder, Sound}
 use Rattle.coder.specs.declared.inner.tables.Coder.{Coder}
 use Rattle.coder.proofs.Fill.{getD-table}
 use Rattle.pass.specs.Answer.{meaning, Right, RightByte}
-use Rattle.pass.specs.Pass.{advance, pass, startBytes, unionOf, answerOf, decoded}
+use Rattle.pass.specs.Pass.{advance, pass, startSets, unionOf, answerOf, decoded}
 use Rattle.pass.specs.declared.Answer.{Answer}
 use Rattle.pass.specs.declared.Answer.the-variants.{Letter, None, Several}
-use Rattle.pass.proofs.Steps.{startByte}
-use Rattle.pass.proofs.Sums.{Sum, none, one, several, sum-map, sum-union-of}
-use Rattle.pass.proofs.Sets.{Sets, Gives, After, advance-sum}
+use Rattle.pass.proofs.Steps.{startSet}
+use Rattle.pass.proofs.Words.{Holds, holds-none, holds-one, holds-map, holds-empty, holds-greatest, holds-another, has-alone, holds-union-of}
+use Rattle.pass.proofs.Sets.{Sets, Gives, After, advance-holds}
 
 -- the letter at the present place of a run that has the letter y from before and reads xs: p is 0 where the present place lies
 -- before xs, and otherwise its place in xs, counted from 1
@@ -116,12 +117,12 @@ module _ (M : Machine) (Q : Sets) where
   all-from h x f = (f .s, h (f .s) (f .y) (f .within), rw (f .letter) (f .within))
 
 -- before the first letter a run that may start in s has the letter 0
-abbrev pub startSets : Setting → Sets
-startSets S s y = S .Start s × (y ≡ 0)
+abbrev pub startingSets : Setting → Sets
+startingSets S s y = S .Start s × (y ≡ 0)
 
 -- the letters that fit
 module _ (S : Setting) (w : List ℕ) (b x : ℕ) where
-  from-fits : mealy.Fits S w b x → From (S .M) (startSets S) w (suc b) x
+  from-fits : mealy.Fits S w b x → From (S .M) (startingSets S) w (suc b) x
   from-fits f =
       record {
         s = f .s;
@@ -133,7 +134,7 @@ module _ (S : Setting) (w : List ℕ) (b x : ℕ) where
         letter = sym (f .letter);
       }
 
-  fits-from : b < length w → From (S .M) (startSets S) w (suc b) x → mealy.Fits S w b x
+  fits-from : b < length w → From (S .M) (startingSets S) w (suc b) x → mealy.Fits S w b x
   fits-from l f =
       record {
         s = f .s;
@@ -145,54 +146,67 @@ module _ (S : Setting) (w : List ℕ) (b x : ℕ) where
         letter = sym (f .letter);
       }
 
--- the answer of a byte that sums up the letters that fit
-pub sum-right : {S : Setting} {w : List ℕ} {b u : ℕ} → Sum (mealy.Fits S w b) u → Right S w b (answerOf u)
+-- the answer of a word that holds the letters that fit
+pub holds-right : {S : Setting} {w : List ℕ} {b u : ℕ} → Holds (mealy.Fits S w b) u → Right S w b (answerOf u)
 unfolding answerOf
-sum-right (none h) = h
-sum-right (one x l p h) =
-    rw (ne-eqb x 254 (λ (z : x ≡ 254). omega arith), ne-eqb x 255 (λ (z : x ≡ 255). omega arith))
-    (record { fits = p; alone = h })
-sum-right (several x y p q d) = record { x = x; y = y; fits₁ = p; fits₂ = q; differ = d }
+holds-right {S} {w} {b} {u} a = go (eqb u 0) refl
+  where
+    -- the greatest letter alone, or another one besides
+    at :
+        eqb u 0 ≡ false → (x : ℕ) → 15 - leadingZeros 16 u ≡ x → 2 ^ x ≤ u → u < 2 ^ suc x → mealy.Fits S w b x → (t : Bool) →
+        eqb u (2 ^ x) ≡ t → Right S w b (answerOf u)
+    at e x g k m p true f =
+        rw (e, g, f) (record { fits = p; alone = λ y q. has-alone y x (rw (eqb-true u (2 ^ x) f) at (a .has y q)) })
+    at e x g k m p false f =
+        let h = holds-another a x (a .below x p) (let n = eqb-false u (2 ^ x) f in omega arith) m in
+        rw (e, g, f)
+        (record { x = x; y = h .0; fits₁ = p; fits₂ = h .2; differ = λ (z : x ≡ h .0). let l = h .1 in omega arith })
+
+    go : (t : Bool) → eqb u 0 ≡ t → Right S w b (answerOf u)
+    go true e = rw e (holds-empty a (eqb-true u 0 e))
+    go false e =
+        let g = holds-greatest a (eqb-false u 0 e) in
+        at e (g .0) (g .1) (g .2) (g .3) (g .4) (eqb u (2 ^ g .0)) refl
 
 module _ (c : Coder) (sound : Sound c) where
   abbrev M : Machine
   M = machineOfCoder c
 
-  pub pass-sum :
-      (w v : List ℕ) (p : ℕ) (Q : Sets) → Within M Q → ((s : ℕ) → s < c .states → Sum (Q s) (getD v s 0)) →
-      p ≤ length w → Sum (From M Q w p) (unionOf (c .states) (pass c v w p))
+  pub pass-holds :
+      (w v : List ℕ) (p : ℕ) (Q : Sets) → Within M Q → ((s : ℕ) → s < c .states → Holds (Q s) (getD v s 0)) →
+      p ≤ length w → Holds (From M Q w p) (unionOf (c .states) (pass c v w p))
   unfolding pass
-  pass-sum [] v p Q h k l =
+  pass-holds [] v p Q h k l =
       let e : p ≡ 0 = omega arith in
-      rw e (sum-map (from-all M Q) (all-from M Q h) (sum-union-of Q v (c .states) k))
-  pass-sum (o ∷ w) v p Q h k l =
-      sum-map (λ x. from-after M Q o w p x) (λ x. after-from M Q o w p x h)
-      (pass-sum w (advance c v o (eqb p 1)) (pred p) (After M Q o (eqb p 1))
+      rw e (holds-map (from-all M Q) (all-from M Q h) (holds-union-of Q v (c .states) k))
+  pass-holds (o ∷ w) v p Q h k l =
+      holds-map (λ x. from-after M Q o w p x) (λ x. after-from M Q o w p x h)
+      (pass-holds w (advance c v o (eqb p 1)) (pred p) (After M Q o (eqb p 1))
       (λ t x a. rw (← a .to) (sound .next-state (a .s) (a .i)))
-      (λ t m. advance-sum c sound Q v o (eqb p 1) k t (let n = sound .states-high in omega arith))
+      (λ t m. advance-holds c sound Q v o (eqb p 1) k t (let n = sound .states-high in omega arith))
       (omega arith))
 
   module _ (flags : List ℕ) where
     abbrev S : Setting
     S = flagged M flags
 
-    start-sum : (s : ℕ) → s < c .states → Sum (startSets S s) (getD (startBytes flags) s 0)
-    start-sum s l =
-        rw (getD-table 16 (startByte flags) s (let n = sound .states-high in omega arith))
+    start-holds : (s : ℕ) → s < c .states → Holds (startingSets S s) (getD (startSets flags) s 0)
+    start-holds s l =
+        rw (getD-table 16 (startSet flags) s (let n = sound .states-high in omega arith))
         (go (eqb (getD flags s 0) 1) refl)
       where
-        go : (t : Bool) → eqb (getD flags s 0) 1 ≡ t → Sum (startSets S s) (startByte flags s)
-        go true e = rw e (one 0 (lit< tt) ((l, eqb-true _ _ e), refl) (λ y q. q .1))
-        go false e = rw e (none (λ x q. eqb-false _ _ e (q .0 .1)))
+        go : (t : Bool) → eqb (getD flags s 0) 1 ≡ t → Holds (startingSets S s) (startSet flags s)
+        go true e = rw e (holds-one 0 (lit< tt) ((l, eqb-true _ _ e), refl) (λ y q. q .1))
+        go false e = rw e (holds-none (λ x q. eqb-false _ _ e (q .0 .1)))
 
     module _ (w : List ℕ) (b : ℕ) (l : b < length w) where
-      pub fits-sum : Sum (mealy.Fits S w b) (unionOf (c .states) (pass c (startBytes flags) w (suc b)))
-      fits-sum =
-          sum-map (λ x. fits-from S w b x l) (from-fits S w b)
-          (pass-sum w (startBytes flags) (suc b) (startSets S) (λ s x q. q .0 .0) start-sum (omega arith))
+      pub fits-holds : Holds (mealy.Fits S w b) (unionOf (c .states) (pass c (startSets flags) w (suc b)))
+      fits-holds =
+          holds-map (λ x. fits-from S w b x l) (from-fits S w b)
+          (pass-holds w (startSets flags) (suc b) (startingSets S) (λ s x q. q .0 .0) start-holds (omega arith))
 
-      pub pass-right : Right S w b (answerOf (unionOf (c .states) (pass c (startBytes flags) w (suc b))))
-      pass-right = sum-right fits-sum
+      pub pass-right : Right S w b (answerOf (unionOf (c .states) (pass c (startSets flags) w (suc b))))
+      pass-right = holds-right fits-holds
 
       pub decoded-right : Right S w b (decoded c flags w b)
       unfolding decoded

@@ -1,4 +1,4 @@
--- One received letter: the set of letters of each state before it and after it, and their bytes.
+-- One received letter: the set of letters of each state before it and after it, and the words that hold them.
 use mathlib.Core.Path.{_≡_, refl, sym, _∙_}
 use mathlib.Core.Bool.{Bool, true, false}
 use mathlib.Core.List.{List}
@@ -20,7 +20,7 @@ use Rattle.chains.specs.Chain.{isEntry, hasKey, over}
 use Rattle.chains.proofs.Entries.{is-entry}
 use Rattle.pass.specs.Pass.{union, given, add, advance}
 use Rattle.pass.proofs.Steps.{hasOutput}
-use Rattle.pass.proofs.Sums.{Sum, none, one, sum-map, sum-empty, sum-element, sum-union}
+use Rattle.pass.proofs.Words.{Holds, holds-none, holds-one, holds-map, holds-empty, holds-greatest, holds-union}
 
 -- a set of letters for each state
 abbrev pub Sets : Type 1
@@ -45,14 +45,20 @@ gives-none : (Q : Sets) (here : Bool) (s i : ℕ) → ((x : ℕ) → Q s x → �
 gives-none Q true s i h x g = h (g .1 .0) (g .1 .1)
 gives-none Q false s i h x g = h x g
 
-gives-sum :
-    (Q : Sets) (here : Bool) (s p : ℕ) {u : ℕ} → Sum (Q s) u → (u ≡ 254 → ⊥) →
-    Sum (Gives Q here s (p % 16)) (given here p u)
-gives-sum Q true s p a f = one (p % 16) (omega arith) (refl, sum-element a f) (λ y g. g .0)
-gives-sum Q false s p a f = a
+gives-holds :
+    (Q : Sets) (here : Bool) (s p : ℕ) {u : ℕ} → Holds (Q s) u → Holds (Gives Q here s (p % 16)) (given here p u)
+unfolding given
+gives-holds Q here s p {u} a = go here (eqb u 0) refl
+  where
+    go : (h b : Bool) → eqb u 0 ≡ b → Holds (Gives Q h s (p % 16)) (given h p u)
+    go h true e = rw e (holds-none (gives-none Q h s (p % 16) (holds-empty a (eqb-true u 0 e))))
+    go true false e =
+        let g = holds-greatest a (eqb-false u 0 e) in
+        rw e (holds-one (p % 16) (omega arith) (refl, (g .0, g .4)) (λ y g. g .0))
+    go false false e = rw e a
 
 module _ (c : Coder) (sound : Sound c) (Q : Sets) (v : List ℕ) (o : ℕ) (here : Bool)
-    (known : (s : ℕ) → s < c .states → Sum (Q s) (getD v s 0)) where
+    (known : (s : ℕ) → s < c .states → Holds (Q s) (getD v s 0)) where
   -- an entry with the output o
   record Passes (p : ℕ) : Type 0 where
     state : p / 16 < c .states
@@ -85,57 +91,38 @@ module _ (c : Coder) (sound : Sound c) (Q : Sets) (v : List ℕ) (o : ℕ) (here
 
   add-size : (to : List ℕ) (p : ℕ) → length (add (c .next) v here to p) ≡ length to
   unfolding add
-  add-size to p = go (eqb (getD v (p / 16) 0) 254) refl
-    where
-      go : (b : Bool) → eqb (getD v (p / 16) 0) 254 ≡ b → length (add (c .next) v here to p) ≡ length to
-      go true e = rw e
-      go false e = rw e (length-set to (getD (c .next) p 0) _)
+  add-size to p = length-set to (getD (c .next) p 0) _
 
-  module _ (P : Sets) (to : List ℕ) (size : length to ≡ 16) (sums : (t : ℕ) → t < 16 → Sum (P t) (getD to t 0)) (p : ℕ)
+  module _ (P : Sets) (to : List ℕ) (size : length to ≡ 16) (sets : (t : ℕ) → t < 16 → Holds (P t) (getD to t 0)) (p : ℕ)
       (e : hasOutput c o p ≡ true) (t : ℕ) (l : t < 16) where
     abbrev u : ℕ
     u = getD v (p / 16) 0
 
-    abbrev Goal : ℕ → Type 0
-    Goal = Sum (λ x. P t x ⊎ Given p t x)
-
-    -- the entry gives nothing to t
-    other : ((x : ℕ) → Given p t x → ⊥) → Goal (getD to t 0)
-    other h = sum-map (λ x. inl) (λ x. ⊎-elim (λ q. q) (λ f. absurd (h x f))) (sums t l)
-
-    add-sum : Goal (getD (add (c .next) v here to p) t 0)
+    add-holds : Holds (λ x. P t x ⊎ Given p t x) (getD (add (c .next) v here to p) t 0)
     unfolding add
-    add-sum = go (eqb u 254) refl
-      where
-        k : Sum (Q (p / 16)) u
-        k = known (p / 16) (passes p e .state)
+    add-holds =
+        elim (ℕ-discrete t (getD (c .next) p 0)) [
+          | yes q ↦
+              rw (← q, getD-set-same to t (union (getD to t 0) (given here p u)) 0 (omega arith))
+              (holds-map
+              (λ x. ⊎-elim inl (λ g. inr (record { is = e; to = sym q; gives = g })))
+              (λ x. ⊎-elim inl (λ g. inr (g .gives)))
+              (holds-union (sets t l) (gives-holds Q here (p / 16) p (known (p / 16) (passes p e .state)))))
+          | no q ↦
+              rw (getD-set-other to (getD (c .next) p 0) t (union (getD to (getD (c .next) p 0) 0) (given here p u)) 0 q)
+              (holds-map (λ x. inl) (λ x. ⊎-elim (λ h. h) (λ g. absurd (q (sym (g .to))))) (sets t l))
+        ]
 
-        go : (b : Bool) → eqb u 254 ≡ b → Goal (getD (add (c .next) v here to p) t 0)
-        go true f =
-            rw f (other (λ x g. gives-none Q here (p / 16) (p % 16) (sum-empty k (eqb-true u 254 f)) x (g .gives)))
-        go false f =
-            elim (ℕ-discrete t (getD (c .next) p 0)) [
-              | yes q ↦
-                  rw (f, ← q, getD-set-same to t (union (getD to t 0) (given here p u)) 0 (omega arith))
-                  (sum-map
-                  (λ x. ⊎-elim inl (λ g. inr (record { is = e; to = sym q; gives = g })))
-                  (λ x. ⊎-elim inl (λ g. inr (g .gives)))
-                  (sum-union (sums t l) (gives-sum Q here (p / 16) p k (eqb-false u 254 f))))
-              | no q ↦
-                  rw (f, getD-set-other to (getD (c .next) p 0) t (union (getD to (getD (c .next) p 0) 0) (given here p u)) 0 q)
-                  (other (λ x g. q (sym (g .to))))
-            ]
+  abbrev OverHolds : ℕ → Type 1
+  OverHolds p =
+      (P : Sets) (to : List ℕ) → length to ≡ 16 → ((t : ℕ) → t < 16 → Holds (P t) (getD to t 0)) →
+      (t : ℕ) → t < 16 → Holds (λ x. P t x ⊎ GivenBelow p t x) (getD (over (hasOutput c o) (add (c .next) v here) to p) t 0)
 
-  abbrev OverSum : ℕ → Type 1
-  OverSum p =
-      (P : Sets) (to : List ℕ) → length to ≡ 16 → ((t : ℕ) → t < 16 → Sum (P t) (getD to t 0)) →
-      (t : ℕ) → t < 16 → Sum (λ x. P t x ⊎ GivenBelow p t x) (getD (over (hasOutput c o) (add (c .next) v here) to p) t 0)
-
-  over-sum : (p : ℕ) → OverSum p
+  over-holds : (p : ℕ) → OverHolds p
   unfolding over
-  over-sum zero P to z h t l =
-      sum-map (λ x. inl) (λ x. ⊎-elim (λ q. q) (λ f. absurd (let m = f .below in omega arith))) (h t l)
-  over-sum (suc p) P to z h t l = go (hasOutput c o p) refl (over-sum p)
+  over-holds zero P to z h t l =
+      holds-map (λ x. inl) (λ x. ⊎-elim (λ q. q) (λ f. absurd (let m = f .below in omega arith))) (h t l)
+  over-holds (suc p) P to z h t l = go (hasOutput c o p) refl (over-holds p)
     where
       earlier : (x : ℕ) → GivenBelow p t x → GivenBelow (suc p) t x
       earlier x f = record { place = f .place; below = let m = f .below in omega arith; is = f .is }
@@ -146,17 +133,17 @@ module _ (c : Coder) (sound : Sound c) (Q : Sets) (v : List ℕ) (o : ℕ) (here
           (λ q. inr (record { place = f .place; below = q; is = f .is }))
           (eq-or-lt-of-le (le-of-suc-le-suc (f .below)))
 
-      go : (b : Bool) → hasOutput c o p ≡ b → OverSum p →
-          Sum (λ x. P t x ⊎ GivenBelow (suc p) t x) (getD (over (hasOutput c o) (add (c .next) v here) to (suc p)) t 0)
+      go : (b : Bool) → hasOutput c o p ≡ b → OverHolds p →
+          Holds (λ x. P t x ⊎ GivenBelow (suc p) t x) (getD (over (hasOutput c o) (add (c .next) v here) to (suc p)) t 0)
       go true e r =
           rw e
-          (sum-map
+          (holds-map
           (λ x. ⊎-elim (⊎-elim inl (λ g. inr (record { place = p; below = omega arith; is = g }))) (λ g. inr (earlier x g)))
           (λ x. ⊎-elim (λ q. inl (inl q)) (λ g. ⊎-elim (λ f. inl (inr f)) inr (last x g)))
-          (r (λ s x. P s x ⊎ Given p s x) (add (c .next) v here to p) (add-size to p ∙ z) (add-sum P to z h p e) t l))
+          (r (λ s x. P s x ⊎ Given p s x) (add (c .next) v here to p) (add-size to p ∙ z) (add-holds P to z h p e) t l))
       go false e r =
           rw e
-          (sum-map
+          (holds-map
           (λ x. ⊎-elim inl (λ g. inr (earlier x g)))
           (λ x. ⊎-elim inl (λ g. ⊎-elim (λ f. absurd (let y : _≡_ {A = ℕ} 0 1 = cc (f .is) in omega arith)) inr (last x g)))
           (r P to z h t l))
@@ -205,8 +192,8 @@ module _ (c : Coder) (sound : Sound c) (Q : Sets) (v : List ℕ) (o : ℕ) (here
             };
           }
 
-  pub advance-sum : (t : ℕ) → t < 16 → Sum (After M Q o here t) (getD (advance c v o here) t 0)
+  pub advance-holds : (t : ℕ) → t < 16 → Holds (After M Q o here t) (getD (advance c v o here) t 0)
   unfolding advance
-  advance-sum t l =
-      sum-map (λ x. ⊎-elim absurd (after t x)) (λ x a. inr (before t x a))
-      (over-sum 256 (λ s x. ⊥) (replicate 16 254) refl (λ s m. rw (getD-replicate {A = ℕ} 16 s 254 0 m) (none (λ x f. f))) t l)
+  advance-holds t l =
+      holds-map (λ x. ⊎-elim absurd (after t x)) (λ x a. inr (before t x a))
+      (over-holds 256 (λ s x. ⊥) (replicate 16 0) refl (λ s m. rw (getD-replicate {A = ℕ} 16 s 0 0 m) (holds-none (λ x f. f))) t l)

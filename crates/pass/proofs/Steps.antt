@@ -1,13 +1,13 @@
 -- The loops of the pass, one turn at a time.
 use mathlib.Core.Path.{_≡_, refl, sym, ap, _∙_}
 use mathlib.Core.Bool.{Bool, true, false}
-use mathlib.Core.List.{List}
-use Prim.Native.Nat.{ℕ, suc, pred, _+_, _-_, _/_, _≤_, _<_}
+use mathlib.Core.List.{List, [], _∷_}
+use Prim.Native.Nat.{ℕ, suc, pred, _+_, _-_, _*_, _/_, _%_, _^_, _≤_, _<_}
 use native.Mathlib.Numerals.{add-one}
 use native.Mathlib.Omega.{arith}
-use lib.ListN.{length, getD, set, replicate, drop, length-set, getD-replicate}
+use lib.ListN.{length, getD, set, replicate, take, drop, length-set, getD-replicate}
 use lib.Dec.{eqb}
-use lib.Seq.{getD-set-same, getD-set-other, ext-getD, drop-cons, drop-length}
+use lib.Seq.{getD-set-same, getD-set-other, ext-getD, take-all}
 use borrow.Author.Tests.{eq-eqb, ne-eqb, eqb-true, eqb-false}
 use borrow.Author.Count.{below-more}
 use Rattle.coder.proofs.Tables.{next-high}
@@ -18,8 +18,10 @@ use Rattle.coder.proofs.Refusals.{both-true}
 use Rattle.coder.proofs.Fill.{length-table, getD-table}
 use Rattle.chains.specs.Chain.{isEntry, hasKey, lastBelow, over}
 use Rattle.chains.proofs.Chains.{last-bound, last-passes, over-last, over-step}
-use Rattle.pass.specs.Pass.{union, given, add, advance, pass, startBytes, unionOf, answerOf, Arrays, ArraysOf}
+use Rattle.pass.specs.Pass.{union, given, add, advance, pass, startSets, unionOf, greatest, answerOf, decoded, Arrays, ArraysOf}
 use Rattle.pass.specs.declared.Answer.{Answer}
+use Rattle.pass.specs.declared.Answer.the-variants.{Letter, Several}
+use Rattle.pass.proofs.Words.{one-shifted}
 
 -- one state more
 pub union-more : {u r : ℕ} (n : ℕ) (v : List ℕ) → u ≡ unionOf n v → r ≡ union u (getD v n 0) → r ≡ unionOf (n + 1) v
@@ -31,32 +33,45 @@ pub union-all :
     {m n u : ℕ} {r : Answer} (v : List ℕ) → u ≡ unionOf m v → m ≡ n → r ≡ answerOf u → r ≡ answerOf (unionOf n v)
 union-all v e q a = rw (← q, ← e) a
 
--- the byte of state s before the first letter
-abbrev pub startByte : List ℕ → ℕ → ℕ
-startByte flags s = pick (eqb (getD flags s 0) 1) 0 254
+-- the set has a letter besides its greatest one, or it has not
+module _ (u : ℕ) (n : u ≡ 0 → ⊥) where
+  shifted : 1 * 2 ^ greatest u % 2 ^ 16 ≡ 2 ^ greatest u
+  shifted = one-shifted (greatest u) (omega arith)
 
--- the first s of the bytes before the first letter are set, the others are of the empty set
+  pub several-letters : (u ≡ 1 * 2 ^ greatest u % 2 ^ 16 → ⊥) → Several ≡ answerOf u
+  unfolding answerOf
+  several-letters d = rw (ne-eqb u 0 n, ne-eqb u (2 ^ greatest u) (λ e. d (e ∙ sym shifted)))
+
+  pub one-letter : u ≡ 1 * 2 ^ greatest u % 2 ^ 16 → Letter (greatest u) ≡ answerOf u
+  unfolding answerOf
+  one-letter e = rw (ne-eqb u 0 n, eq-eqb u (2 ^ greatest u) (e ∙ shifted))
+
+-- the set of state s before the first letter
+abbrev pub startSet : List ℕ → ℕ → ℕ
+startSet flags s = pick (eqb (getD flags s 0) 1) 1 0
+
+-- the first s of the sets before the first letter are made, the others are empty
 pub record Started (flags : List ℕ) (s : ℕ) (v : List ℕ) : Type 0 where
   pub size : length v ≡ 16
-  pub is : (j : ℕ) → j < s → getD v j 0 ≡ startByte flags j
-  pub rest : (j : ℕ) → s ≤ j → j < 16 → getD v j 0 ≡ 254
+  pub is : (j : ℕ) → j < s → getD v j 0 ≡ startSet flags j
+  pub rest : (j : ℕ) → s ≤ j → j < 16 → getD v j 0 ≡ 0
 
 module _ {flags : List ℕ} where
-  pub started-none : Started flags 0 (replicate 16 254)
+  pub started-none : Started flags 0 (replicate 16 0)
   started-none =
-      record { size = refl; is = λ j l. absurd (omega arith); rest = λ j l m. getD-replicate {A = ℕ} 16 j 254 0 m }
+      record { size = refl; is = λ j l. absurd (omega arith); rest = λ j l m. getD-replicate {A = ℕ} 16 j 0 0 m }
 
   module _ {s : ℕ} {v : List ℕ} (a : Started flags s v) (l : s < 16) where
-    pub started-set : getD flags s 0 ≡ 1 → Started flags (s + 1) (set v s 0)
+    pub started-set : getD flags s 0 ≡ 1 → Started flags (s + 1) (set v s 1)
     started-set e =
         let z = a .size in
         record {
-          size = length-set v s 0 ∙ a .size;
+          size = length-set v s 1 ∙ a .size;
           is =
-              below-more (λ j. getD (set v s 0) j 0 ≡ startByte flags j) s
-              (λ j q. getD-set-other v s j 0 0 (λ (y : j ≡ s). omega arith) ∙ a .is j q)
-              (getD-set-same v s 0 0 (omega arith) ∙ rw (eq-eqb _ _ e));
-          rest = λ j q m. getD-set-other v s j 0 0 (λ (y : j ≡ s). omega arith) ∙ a .rest j (omega arith) m;
+              below-more (λ j. getD (set v s 1) j 0 ≡ startSet flags j) s
+              (λ j q. getD-set-other v s j 1 0 (λ (y : j ≡ s). omega arith) ∙ a .is j q)
+              (getD-set-same v s 1 0 (omega arith) ∙ rw (eq-eqb _ _ e));
+          rest = λ j q m. getD-set-other v s j 1 0 (λ (y : j ≡ s). omega arith) ∙ a .rest j (omega arith) m;
         }
 
     pub started-skip : (getD flags s 0 ≡ 1 → ⊥) → Started flags (s + 1) v
@@ -64,14 +79,14 @@ module _ {flags : List ℕ} where
         record {
           size = a .size;
           is =
-              below-more (λ j. getD v j 0 ≡ startByte flags j) s (a .is)
+              below-more (λ j. getD v j 0 ≡ startSet flags j) s (a .is)
               (a .rest s (omega arith) l ∙ rw (ne-eqb _ _ e));
           rest = λ j q m. a .rest j (omega arith) m;
         }
 
-  pub started-all : {s : ℕ} {v : List ℕ} → Started flags s v → 16 ≤ s → v ≡ startBytes flags
+  pub started-all : {s : ℕ} {v : List ℕ} → Started flags s v → 16 ≤ s → v ≡ startSets flags
   started-all {s} {v} a l =
-      let g = startByte flags in
+      let g = startSet flags in
       let z = a .size in
       ext-getD 0 v (table 16 g) (a .size ∙ sym (length-table 16 g))
       (λ j m. a .is j (omega arith) ∙ sym (getD-table 16 g j (omega arith)))
@@ -97,7 +112,7 @@ module _ {c : Coder} {next last previous : List ℕ} (a : ArraysOf c next last p
         a .chained .previous p l (h .0) ∙
         ap (λ k. lastBelow (hasOutput c k) p) (eqb-true _ _ (h .1))
 
--- The walk along the chain of o has come to the entry with number q, and the bytes are `to`.
+-- The walk along the chain of o has come to the entry with number q, and the sets are `to`.
 pub record Walked (next last previous v : List ℕ) (o : ℕ) (here : Bool) (to : List ℕ) (q : ℕ) : Type 0 where
   pub size : length to ≡ 16
   pub bound : q ≤ 256
@@ -117,7 +132,7 @@ module _ {next last previous : List ℕ} where
 
   pub walked-none :
       {v : List ℕ} {o : ℕ} {here : Bool} → Arrays next last previous → o < 64 →
-      Walked next last previous v o here (replicate 16 254) (getD last o 0)
+      Walked next last previous v o here (replicate 16 0) (getD last o 0)
   unfolding advance
   walked-none {v} {o} {here} a l =
       record {
@@ -125,7 +140,7 @@ module _ {next last previous : List ℕ} where
         bound = last-high a o l;
         entry = λ c b p e. last-passes (hasOutput c o) 256 p (sym (last-is b o l) ∙ e);
         rest = λ c b.
-            rw (last-is b o l) (sym (over-last (hasOutput c o) (add (c .next) v here) (replicate 16 254) 256));
+            rw (last-is b o l) (sym (over-last (hasOutput c o) (add (c .next) v here) (replicate 16 0) 256));
       }
 
   module _ {v : List ℕ} {o : ℕ} {here : Bool} {to : List ℕ} {q : ℕ} (w : Walked next last previous v o here to q)
@@ -150,18 +165,11 @@ module _ {next last previous : List ℕ} where
               (sym (over-last (hasOutput c o) g (g to p) p) ∙ sym (over-step (hasOutput c o) g to p t) ∙ rw (← e) (w .rest c b));
         }
 
-    pub walked-skip : getD v (p / 16) 0 ≡ 254 → Walked next last previous v o here to (getD previous p 0)
-    unfolding add
-    walked-skip g = walked-more (w .size) (rw (eq-eqb (getD v (p / 16) 0) 254 g))
-
     pub walked-add :
-        {x r : ℕ} → (getD v (p / 16) 0 ≡ 254 → ⊥) → x ≡ given here p (getD v (p / 16) 0) →
-        r ≡ union (getD to (getD next p 0) 0) x →
+        {x r : ℕ} → x ≡ given here p (getD v (p / 16) 0) → r ≡ union (getD to (getD next p 0) 0) x →
         Walked next last previous v o here (set to (getD next p 0) r) (getD previous p 0)
     unfolding add
-    walked-add {x} {r} g ex er =
-        walked-more (length-set to (getD next p 0) r ∙ w .size)
-        (rw (ne-eqb (getD v (p / 16) 0) 254 g, er, ex))
+    walked-add {x} {r} ex er = walked-more (length-set to (getD next p 0) r ∙ w .size) (rw (er, ex))
 
   pub walked-all :
       {v : List ℕ} {o : ℕ} {here : Bool} {to : List ℕ} {q : ℕ} → Walked next last previous v o here to q → q ≡ 0 →
@@ -169,44 +177,30 @@ module _ {next last previous : List ℕ} where
   unfolding over
   walked-all w e c a = rw e at (w .rest c a)
 
--- the place where the present letter stands, counted from the front and from place k on
-same-test :
-    (a b c d : ℕ) → (a ≡ b → c ≡ d) → (c ≡ d → a ≡ b) → (t : Bool) → eqb a b ≡ t → eqb a b ≡ eqb c d
-same-test a b c d f g true e = e ∙ sym (eq-eqb c d (f (eqb-true a b e)))
-same-test a b c d f g false e = e ∙ sym (ne-eqb c d (λ z. eqb-false a b e (g z)))
+-- no letter is left, or one is read
+pub rest : (w : List ℕ) → take (length w - 1) (drop 1 w) ≡ drop 1 w
+rest [] = refl
+rest (o ∷ w) = take-all (suc (length w) - 1) w (omega arith)
 
-here-is : (b k : ℕ) → eqb k b ≡ eqb (suc b - k) 1
-here-is b k =
-    same-test k b (suc b - k) 1 (λ (z : k ≡ b). omega arith) (λ (z : suc b - k ≡ 1). omega arith) (eqb k b) refl
+module _ (c : Coder) (v : List ℕ) (p : ℕ) where
+  pub passed-none : (w : List ℕ) → length w ≡ 0 → v ≡ pass c v w p
+  unfolding pass
+  passed-none [] e = refl
+  passed-none (o ∷ w) e = absurd (omega arith)
 
--- the pass has come to place k of the window w
-pub record PassedTo (next last previous flags w : List ℕ) (b k : ℕ) (v : List ℕ) : Type 0 where
-  pub bound : k ≤ length w
-  pub rest :
-      (c : Coder) → ArraysOf c next last previous →
-      pass c v (drop k w) (suc b - k) ≡ pass c (startBytes flags) w (suc b)
-
-module _ {next last previous flags w : List ℕ} {b : ℕ} where
-  pub passed-none : {v : List ℕ} → v ≡ startBytes flags → PassedTo next last previous flags w b 0 v
-  passed-none e =
-      let q : suc b - 0 ≡ suc b = omega arith in
-      record { bound = omega arith; rest = λ c a. rw (e, q) }
+  passed-first :
+      (w : List ℕ) → (length w ≡ 0 → ⊥) → pass c (advance c v (getD w 0 0) (eqb p 1)) (drop 1 w) (pred p) ≡ pass c v w p
+  unfolding pass
+  passed-first [] n = absurd (n refl)
+  passed-first (o ∷ w) n = refl
 
   pub passed-more :
-      {k o : ℕ} {v v′ : List ℕ} → PassedTo next last previous flags w b k v → k < length w → o ≡ getD w k 0 →
-      ((c : Coder) → ArraysOf c next last previous → v′ ≡ advance c v o (eqb k b)) → PassedTo next last previous flags w b (k + 1) v′
-  unfolding pass
-  passed-more {k} {o} {v} {v′} p l eo e =
-      let q : pred (suc b - k) ≡ suc b - suc k = omega arith in
-      record {
-        bound = omega arith;
-        rest = λ c a. rw (add-one, e c a, eo, here-is b k, ← q) (rw (drop-cons w k 0 l) at (p .rest c a));
-      }
+      (w : List ℕ) {o p′ : ℕ} {v′ : List ℕ} → (length w ≡ 0 → ⊥) → o ≡ getD w 0 0 → v′ ≡ advance c v o (eqb p 1) → p′ ≡ pred p →
+      pass c v′ (take (length w - 1) (drop 1 w)) p′ ≡ pass c v w p
+  passed-more w n eo ev ep = rw (rest w, ep, ev, eo) (passed-first w n)
 
-  pub passed-all :
-      {k : ℕ} {v : List ℕ} → PassedTo next last previous flags w b k v → length w ≤ k → (c : Coder) → ArraysOf c next last previous →
-      v ≡ pass c (startBytes flags) w (suc b)
-  unfolding pass
-  passed-all {k} {v} p l c a =
-      let e : k ≡ length w = let h = p .bound in omega arith in
-      rw (e, drop-length) at (p .rest c a)
+pub decoded-is :
+    (c : Coder) (flags w : List ℕ) (b : ℕ) {v : List ℕ} {states p : ℕ} → v ≡ startSets flags → states ≡ c .states → p ≡ b + 1 →
+    answerOf (unionOf states (pass c v w p)) ≡ decoded c flags w b
+unfolding decoded
+decoded-is c flags w b ev es ep = rw (ev, es, ep, add-one)

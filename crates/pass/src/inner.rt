@@ -1,102 +1,101 @@
-// No public calls: one pass over the letters of a window, with a byte for each state. Some of these have a `requires`.
+// No public calls: one pass over the letters of a window, with a set of letters for each state. Some of these have a `requires`.
 ghost use mathlib.Core.Path.{_≡_};
-ghost use Prim.Native.Nat.{ℕ, _<_, _≤_};
+ghost use Prim.Native.Nat.{ℕ, pred, _<_, _≤_};
 ghost use lib.ListN.{length};
 ghost use Rattle.mealy.specs.Machine.{Letters};
 ghost use Rattle.mealy.specs.Answer.{byteOf};
 ghost use Rattle.coder.specs.declared.inner.tables.Coder.{Coder};
 ghost use Rattle.pass.specs.Answer.{meaning};
-ghost use Rattle.pass.specs.Pass.{Arrays, ArraysOf, given as givenOf, union as unionSpec, advance as advanced, startBytes, unionOf, answerOf, decoded};
+ghost use Rattle.pass.specs.Pass.{Arrays, ArraysOf, given as givenOf, union as unionSpec, advance as advanced, pass as passed, startSets, unionOf, answerOf, decoded};
 use crate::Answer;
 use coder::inner::bytes::byte;
 
-// The bytes of the empty set and of a set of several letters; any other byte is the one letter of its set.
-const NONE: u8 = 254;
+// A set of letters is a word: bit x is set where letter x is in it.
+const EMPTY: u16 = 0;
 
-const SEVERAL: u8 = 255;
-
-// The byte of the union of two sets.
-pub fn union(x: u8, y: u8) -> u8
-    ensures { λ r. ⌜ r ≡ unionSpec x y ⌝ }
+// The union of two sets.
+pub fn union(u: u16, v: u16) -> u16
+    ensures { λ r. ⌜ r ≡ unionSpec u v ⌝ }
 {
-    if x == NONE {
-        return y;
-    }
-    if y == NONE {
-        return x;
-    }
-    if x == y {
-        return x;
-    }
-    SEVERAL
+    u | v
 }
 
-// What the entry at place p gives to its next state: at the present place its letter, elsewhere the byte u of its own state.
-fn given(here: bool, p: usize, u: u8) -> u8
+// What the entry at place p gives to its next state: at the present place its letter, elsewhere the set u of its own state, and
+// nothing where that set is empty.
+fn given(here: bool, p: usize, u: u16) -> u16
     ensures { λ r. ⌜ r ≡ givenOf here p u ⌝ }
 {
-    if here { (p % 16) as u8 } else { u }
+    if u == EMPTY {
+        return EMPTY;
+    }
+    if here { 1u16 << (p % 16) } else { u }
 }
 
-// The bytes of the states one received letter later.
+// The sets of the states one received letter later.
 pub fn advance<'a>(
     next: &'a [u8; 256],
     last: &'a [u16; 64],
     previous: &'a [u16; 256],
-    v: &'a [u8; 16],
+    v: &'a [u16; 16],
     o: usize,
     here: bool,
-) -> [u8; 16]
+) -> [u16; 16]
     requires { ⌜ Arrays (now next) (now last) (now previous) × (o < 64) ⌝ }
     ensures { λ r. ⌜ ((c : Coder) → ArraysOf c (now (next .entry)) (now (last .entry)) (now (previous .entry)) → r ≡ advanced c (now (v .entry)) o here) ⌝ }
 {
-    let mut to = [NONE; 16];
+    let mut to = [EMPTY; 16];
     let mut q = last[o] as usize;
     while 0 < q {
         let p = q - 1;
         let u = v[p / 16];
         q = previous[p] as usize;
-        if u != NONE {
-            let t = next[p] as usize;
-            to[t] = union(to[t], given(here, p, u));
-        }
+        let t = next[p] as usize;
+        to[t] = union(to[t], given(here, p, u));
     }
     to
 }
 
-// The bytes before the first letter: the start states are those whose flag is 1.
-pub fn start_bytes(flags: &[u8; 16]) -> [u8; 16]
-    ensures { λ r. ⌜ r ≡ startBytes (now (flags .entry)) ⌝ }
+// The sets before the first letter: the start states are those whose flag is 1.
+pub fn start_sets(flags: &[u8; 16]) -> [u16; 16]
+    ensures { λ r. ⌜ r ≡ startSets (now (flags .entry)) ⌝ }
 {
-    let mut v = [NONE; 16];
+    let mut v = [EMPTY; 16];
     let mut s = 0;
     while s < 16 {
         if flags[s] == 1 {
-            v[s] = 0;
+            v[s] = 1;
         }
         s += 1;
     }
     v
 }
 
+// The answer that a set stands for: with more letters than its greatest one, several.
+fn answer_of(u: u16) -> Answer
+    ensures { λ r. ⌜ r ≡ answerOf u ⌝ }
+{
+    if u == EMPTY {
+        return Answer::None;
+    }
+    let greatest = 15 - u16::leading_zeros(u);
+    if u != 1u16 << greatest {
+        return Answer::Several;
+    }
+    Answer::Letter(greatest as u8)
+}
+
 // The answer after the last letter.
-pub fn answer(v: &[u8; 16], states: usize) -> Answer
+pub fn answer(v: &[u16; 16], states: usize) -> Answer
     requires { ⌜ states ≤ 16 ⌝ }
     ensures { λ r. ⌜ r ≡ answerOf (unionOf states (now (v .entry))) ⌝ }
 {
-    let mut u = NONE;
+    let mut u = EMPTY;
     let mut s = 0;
     while s < states {
         u = union(u, v[s]);
         s += 1;
     }
-    if u == NONE {
-        return Answer::None;
-    }
-    if u == SEVERAL {
-        return Answer::Several;
-    }
-    Answer::Letter(u)
+    answer_of(u)
 }
 
 // The answer's byte.
@@ -105,9 +104,39 @@ pub fn answer_byte(a: Answer) -> u8
 {
     match a {
         Answer::Letter(x) => x,
-        Answer::None => NONE,
-        Answer::Several => SEVERAL,
+        Answer::None => 254,
+        Answer::Several => 255,
     }
+}
+
+// The number of the present letter among the letters left, once one more is read: counted from 1, and 0 where it has been read.
+pub fn present_after(present: usize) -> usize
+    ensures { λ r. ⌜ r ≡ pred present ⌝ }
+{
+    if present == 0 { 0 } else { present - 1 }
+}
+
+// The answer for the letters that are left of a window, after letters that led to the sets v. The present letter is the one numbered
+// `present` of those left, counted from 1; 0 where it has been read.
+fn pass<'a>(
+    next: &'a [u8; 256],
+    last: &'a [u16; 64],
+    previous: &'a [u16; 256],
+    states: usize,
+    v: &'a [u16; 16],
+    left: &[u8],
+    present: usize,
+) -> Answer
+    requires { ⌜ Arrays (now next) (now last) (now previous) × ((states ≤ 16) × Letters 64 (now left)) ⌝ }
+    ensures { λ r. ⌜ ((c : Coder) → ArraysOf c (now (next .entry)) (now (last .entry)) (now (previous .entry)) → states ≡ c .states → r ≡ answerOf (unionOf states (passed c (now (v .entry)) (now (left .entry)) present))) ⌝ }
+{
+    if left.len() == 0 {
+        return answer(v, states);
+    }
+    let o = byte(left, 0);
+    let to = advance(next, last, previous, v, o, present == 1);
+    let after = present_after(present);
+    pass(next, last, previous, states, &to, &left[1..], after)
 }
 
 // The answer for the letters of a window with b letters before the present one.
@@ -120,16 +149,9 @@ pub fn decode<'a>(
     window: &[u8],
     b: usize,
 ) -> Answer
-    requires { ⌜ Arrays (now next) (now last) (now previous) × ((states ≤ 16) × Letters 64 (now window)) ⌝ }
+    requires { ⌜ Arrays (now next) (now last) (now previous) × ((states ≤ 16) × Letters 64 (now window)) × (b ≤ 136) ⌝ }
     ensures { λ r. ⌜ ((c : Coder) → ArraysOf c (now (next .entry)) (now (last .entry)) (now (previous .entry)) → states ≡ c .states → r ≡ decoded c (now (flags .entry)) (now (window .entry)) b) ⌝ }
 {
-    let mut v = start_bytes(flags);
-    let mut k = 0;
-    while k < window.len() {
-        let o = byte(window, k);
-        let to = advance(next, last, previous, &v, o, k == b);
-        v = to;
-        k += 1;
-    }
-    answer(&v, states)
+    let v = start_sets(flags);
+    pass(next, last, previous, states, &v, window, b + 1)
 }

@@ -79,6 +79,7 @@ decode-places-requires c κs =
       letters =
           letters-higher (outputsOf (now (a .file))) 64 (now (a .received)) (omega (arith, s .outputs-high, outputs-of h))
           (r .letters);
+      side = r .sides .before-high;
       windows = omega (arith, m);
       room = omega (arith, m);
     }

@@ -77,8 +77,8 @@ room c =
     let q : tableSize (outputsOf (now (a .file))) (a .before) (a .after) ≤ length (now (a .table)) = leb-true _ _ (r .fits) in
     omega (arith, count-is c)
 
-start-bytes-requires : tie.Need-start-bytes-requires
-start-bytes-requires c κs = search needs
+start-sets-requires : tie.Need-start-sets-requires
+start-sets-requires c κs = search needs
 
 -- the place after the call of `size`, from the calls after it
 abbrev sized : tie.After-v → tie.After-size
@@ -127,7 +127,7 @@ returns-2 c =
       result = rw z (ap (λ n. Done n) n);
       bytes =
           rw z
-          (table-right h (a .before) (a .after) (outputs-of h) refl n (room k) (c .before .before .before .before .before .before .before .before .before .before .start-bytes .ensures)
+          (table-right h (a .before) (a .after) (outputs-of h) refl n (room k) (c .before .before .before .before .before .before .before .before .before .before .start-sets .ensures)
           (c .before .before .fill .ensures _ (arrays-of h (k .before .by-key .ensures)) refl));
     }
 
@@ -142,7 +142,7 @@ table-spec =
     add-n
     add-n-2
     size-requires
-    start-bytes-requires
+    start-sets-requires
     add-fill
     slice-relend-prefix-fill
     slice-aggregate-fill

@@ -46,6 +46,7 @@ decode-requires c κs =
         letters-higher (outputsOf (now (a .file))) 64 (now (a .received)) (omega (arith, s .outputs-high, outputs-of h))
             (r .letters),
       ),
+      r .sides .before-high,
     )
 
 returns-2 : tie.Need-returns-2

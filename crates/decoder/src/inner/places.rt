@@ -28,7 +28,7 @@ pub fn decode_places<'a>(
     m: usize,
     output: &mut [u8],
 )
-    requires { ⌜ PlacesAsked (now next) (now last) (now previous) states (now received) n m (now output) ⌝ }
+    requires { ⌜ PlacesAsked (now next) (now last) (now previous) states (now received) b n m (now output) ⌝ }
     ensures { λ _. ⌜ ((c : Coder) → ArraysOf c (now (next .entry)) (now (last .entry)) (now (previous .entry)) → states ≡ c .states → PlacesDecoded c (now (flags .entry)) (now (received .entry)) b n m (now (output .entry)) (now (output .exit))) ⌝ }
 {
     let mut k = 0;

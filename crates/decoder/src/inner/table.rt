@@ -7,6 +7,7 @@ ghost use Rattle.decoder.specs.Table.{sizeOf, FillAsked, Filled};
 use pass::inner::advance;
 use pass::inner::answer;
 use pass::inner::answer_byte;
+use pass::inner::present_after;
 
 // The number of windows of n letters to base o, or 0 where there are more than 65,536.
 pub fn size(o: usize, n: usize) -> usize
@@ -25,7 +26,7 @@ pub fn size(o: usize, n: usize) -> usize
     size
 }
 
-// Fills the part of the table whose windows have `left` letters more, after letters that led to the bytes v. The present letter is
+// Fills the part of the table whose windows have `left` letters more, after letters that led to the sets v. The present letter is
 // the one numbered `present` of those left, counted from 1; 0 where it has been read.
 pub fn fill<'a>(
     next: &'a [u8; 256],
@@ -33,7 +34,7 @@ pub fn fill<'a>(
     previous: &'a [u16; 256],
     states: usize,
     outputs: usize,
-    v: &'a [u8; 16],
+    v: &'a [u16; 16],
     left: usize,
     present: usize,
     table: &mut [u8],
@@ -46,10 +47,7 @@ pub fn fill<'a>(
         return;
     }
     let size = table.len() / outputs;
-    let mut after: usize = 0;
-    if 0 < present {
-        after = present - 1;
-    }
+    let after = present_after(present);
     let mut o = 0;
     while o < outputs {
         let to = advance(next, last, previous, v, o, present == 1);

@@ -1,6 +1,6 @@
 -- `advance` meets its contract. The walk along the chain of o has come to the entry with number q, and what is left of the chain lies below q.
 use Prim.Native.Nat.{_-_}
-use Rattle.pass.proofs.Steps.{Walked, walked-none, walked-add, walked-skip, walked-all, next-below, last-high, previous-high}
+use Rattle.pass.proofs.Steps.{Walked, walked-none, walked-add, walked-all, next-below, last-high, previous-high}
 use borrow.Author.Needs.{needs}
 use native.Mathlib.Omega.{arith}
 use Rattle.pass.proofs.inner.advance.Statement.{statement}
@@ -27,6 +27,9 @@ loop-holds c = walked-none (c .before .pre .0) (c .before .pre .1)
 sub-p : tie.Need-sub-p Inv-loop μ-loop
 sub-p c = search needs
 
+mul-u : tie.Need-mul-u Inv-loop μ-loop
+mul-u c = search needs
+
 element-copy-out-u : tie.Need-element-copy-out-u Inv-loop μ-loop
 element-copy-out-u c = search needs
 
@@ -45,11 +48,13 @@ element-copy-out-t : tie.Need-element-copy-out-t Inv-loop μ-loop
 element-copy-out-t c = search needs
 
 cast-t : tie.Need-cast-t Inv-loop μ-loop
-cast-t c =
-    omega (arith, next-below (c .before .before .before .before .before .before .before .pre .0) (c .before .before .before .before .before .loop .q - 1))
+cast-t c = omega (arith, next-below (c .before .before .before .before .before .before .pre .0) (c .before .before .before .before .loop .q - 1))
+
+mul-union : tie.Need-mul-union Inv-loop μ-loop
+mul-union c = omega (arith, next-below (c .before .before .before .before .before .before .pre .0) (c .before .before .before .before .loop .q - 1))
 
 array-read-union : tie.Need-array-read-union Inv-loop μ-loop
-array-read-union c = next-below (c .before .before .before .before .before .before .before .pre .0) _
+array-read-union c = next-below (c .before .before .before .before .before .before .pre .0) _
 
 given-requires : tie.Need-given-requires Inv-loop μ-loop
 given-requires c κs = search needs
@@ -57,29 +62,21 @@ given-requires c κs = search needs
 union-requires : tie.Need-union-requires Inv-loop μ-loop
 union-requires c κs = search needs
 
+mul-to : tie.Need-mul-to Inv-loop μ-loop
+mul-to c = omega (arith, next-below (c .before .before .before .before .before .before .before .before .pre .0) (c .before .before .before .before .before .before .loop .q - 1))
+
 array-write-to : tie.Need-array-write-to Inv-loop μ-loop
-array-write-to c = next-below (c .before .before .before .before .before .before .before .before .before .pre .0) _
+array-write-to c = next-below (c .before .before .before .before .before .before .before .before .pre .0) _
 
 loop-less : tie.Need-loop-less Inv-loop μ-loop
 loop-less c =
-    let i = c .before .before .before .before .before .before .before .loop in
-    omega (arith, previous-high (i .inv) (c .before .before .before .before .before .before .before .before .before .pre .0) (i .q - 1) (omega arith))
+    let i = c .before .before .before .before .before .before .loop in
+    omega (arith, previous-high (i .inv) (c .before .before .before .before .before .before .before .before .pre .0) (i .q - 1) (omega arith))
 
 loop-again : tie.Need-loop-again Inv-loop μ-loop
 loop-again c =
-    let i = c .before .before .before .before .before .before .before .loop in
-    walked-add (i .inv) (c .before .before .before .before .before .before .before .before .before .pre .0) (i .q - 1) (omega arith)
-    (c .before .before .before .if1 .taken) (c .before .given .ensures) (c .union .ensures)
-
-loop-less-2 : tie.Need-loop-less-2 Inv-loop μ-loop
-loop-less-2 c =
-    let i = c .before .before .before .before .loop in
-    omega (arith, previous-high (i .inv) (c .before .before .before .before .before .before .pre .0) (i .q - 1) (omega arith))
-
-loop-again-2 : tie.Need-loop-again-2 Inv-loop μ-loop
-loop-again-2 c =
-    let i = c .before .before .before .before .loop in
-    walked-skip (i .inv) (c .before .before .before .before .before .before .pre .0) (i .q - 1) (omega arith) (c .if1 .left)
+    let i = c .before .before .before .before .before .before .loop in
+    walked-add (i .inv) (c .before .before .before .before .before .before .before .before .pre .0) (i .q - 1) (omega arith) (c .before .given .ensures) (c .union .ensures)
 
 returns : tie.Need-returns Inv-loop μ-loop
 returns c = walked-all (c .before .loop .inv) (omega arith)
@@ -95,18 +92,19 @@ advance-spec =
     cast-q
     loop-holds
     sub-p
+    mul-u
     element-copy-out-u
     mul-q-2
     element-copy-out-q-2
     cast-q-2
     element-copy-out-t
     cast-t
+    mul-union
     array-read-union
     given-requires
     union-requires
+    mul-to
     array-write-to
     loop-less
     loop-again
-    loop-less-2
-    loop-again-2
     returns)

@@ -1,6 +1,5 @@
--- `answer` meets its contract. u is the union of the bytes of the first s states.
-use Rattle.coder.proofs.Refusals.{tests}
-use Rattle.pass.specs.Pass.{unionOf, answerOf}
+-- `answer` meets its contract. u is the union of the sets of the first s states.
+use Rattle.pass.specs.Pass.{unionOf}
 use mathlib.Core.Path.{_≡_, refl}
 use Prim.Native.Nat.{_≤_, _-_}
 use Rattle.pass.proofs.Steps.{union-more, union-all}
@@ -19,6 +18,9 @@ loop-holds : tie.Need-loop-holds Inv-loop μ-loop
 unfolding unionOf
 loop-holds c = (search needs, refl)
 
+mul-union : tie.Need-mul-union Inv-loop μ-loop
+mul-union c = search needs
+
 element-copy-out-union : tie.Need-element-copy-out-union Inv-loop μ-loop
 element-copy-out-union c = search needs
 
@@ -34,17 +36,11 @@ loop-less c = search needs
 loop-again : tie.Need-loop-again Inv-loop μ-loop
 loop-again c = (search needs, union-more _ _ (c .before .before .before .loop .inv .1) (c .union .ensures))
 
+answer-of-requires : tie.Need-answer-of-requires Inv-loop μ-loop
+answer-of-requires c κs = search needs
+
 returns : tie.Need-returns Inv-loop μ-loop
-unfolding answerOf
-returns c = union-all _ (c .before .before .loop .inv .1) (omega arith) (search tests)
-
-returns-2 : tie.Need-returns-2 Inv-loop μ-loop
-unfolding answerOf
-returns-2 c = union-all _ (c .before .before .before .loop .inv .1) (omega arith) (search tests)
-
-returns-3 : tie.Need-returns-3 Inv-loop μ-loop
-unfolding answerOf
-returns-3 c = union-all _ (c .before .before .before .loop .inv .1) (omega arith) (search tests)
+returns c = union-all _ (c .before .before .loop .inv .1) (omega arith) (c .answer-of .ensures)
 
 pub answer-spec : {M : Type 1} → statement M
 answer-spec =
@@ -53,11 +49,11 @@ answer-spec =
     Inv-loop
     μ-loop
     loop-holds
+    mul-union
     element-copy-out-union
     union-requires
     add-s
     loop-less
     loop-again
-    returns
-    returns-2
-    returns-3)
+    answer-of-requires
+    returns)

@@ -39,7 +39,7 @@ part-decode-end c = search needs
 decode-requires : tie.Need-decode-requires Inv-loop μ-loop
 decode-requires c κs =
     let p = c .before .before .before .before .before .pre in
-    (p .arrays, (p .states-high, search (letters-take, letters-drop, p .letters)))
+    (p .arrays, (p .states-high, search (letters-take, letters-drop, p .letters)), p .side)
 
 answer-byte-requires : tie.Need-answer-byte-requires Inv-loop μ-loop
 answer-byte-requires c κs = search needs

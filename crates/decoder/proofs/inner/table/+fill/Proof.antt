@@ -1,14 +1,13 @@
 -- The proof of the cycle of calls {fill}: the measure is `left`. A part with no letter left is one byte; a part with more is filled
 -- letter by letter, each letter's part by a call with one letter less.
 use mathlib.Core.Path.{sym, ap, _∙_}
-use mathlib.Core.Logic.{⊎-elim}
 use native.Mathlib.Omega.{arith}
 use borrow.Author.Needs.{needs}
 use denote.Ref.{now}
 use Rattle.mealy.specs.Answer.{byteOf}
 use Rattle.pass.specs.Answer.{meaning}
 use Prim.Native.Nat.{ℕ, _<_, _-_}
-use Rattle.decoder.proofs.Filling.{one-byte, filled-none, Filling, pred-is, pred-none, filling-start, filling-room, filling-part, filling-more, filling-end}
+use Rattle.decoder.proofs.Filling.{one-byte, filled-none, Filling, filling-start, filling-room, filling-part, filling-more, filling-end}
 use borrow.Fn.Kinds.{In}
 use borrow.Fn.PlainCycle.{Measures, is, falls, and}
 use Rattle.decoder.proofs.inner.table.fill.Reads as fill
@@ -17,6 +16,7 @@ use Rattle.decoder.proofs.inner.table.+fill.Lts-fill as fill-lts
 use Rattle.pass.proofs.inner.advance.Reads as advance-reads
 use Rattle.pass.proofs.inner.answer.Reads as answer-reads
 use Rattle.pass.proofs.inner.answer_byte.Reads as answer-byte-reads
+use Rattle.pass.proofs.inner.present_after.Reads as present-after-reads
 use Rattle.decoder.proofs.inner.table.+fill.{statement}
 use Rattle.decoder.proofs.inner.table.+fill.Tie.{close}
 
@@ -43,6 +43,8 @@ claims t = (
   answer-reads.Learnt,
   answer-byte-reads.Asked,
   answer-byte-reads.Learnt,
+  present-after-reads.Asked,
+  present-after-reads.Learnt,
   advance-reads.Asked,
   advance-reads.Learnt,
   fill-below t,
@@ -70,13 +72,11 @@ fill-returns t c = λ d a e.
 fill-div-size : (t : ℕ) → fill-lts.Need-div-size (claims t) (fill-at t) fill.Post fill-Inv-loop fill-μ-loop
 fill-div-size t c = c .before .before .pre .1 .outputs-low
 
-fill-sub-after : (t : ℕ) → fill-lts.Need-sub-after (claims t) (fill-at t) fill.Post fill-Inv-loop fill-μ-loop
-fill-sub-after t c = search needs
+fill-present-after-requires : (t : ℕ) → fill-lts.Need-present-after-requires (claims t) (fill-at t) fill.Post fill-Inv-loop fill-μ-loop
+fill-present-after-requires t c κs = search needs
 
 fill-loop-holds : (t : ℕ) → fill-lts.Need-loop-holds (claims t) (fill-at t) fill.Post fill-Inv-loop fill-μ-loop
-fill-loop-holds t c =
-    filling-start (c .before .before .before .pre .1) (omega arith)
-    (⊎-elim (λ w. pred-is _ (w .0 .taken) (w .1)) (λ w. pred-none _ (w .0 .left) (w .1)) (c .if2 .came))
+fill-loop-holds t c = filling-start (c .before .before .before .pre .1) (omega arith) (c .present-after .ensures)
 
 fill-advance-requires : (t : ℕ) → fill-lts.Need-advance-requires (claims t) (fill-at t) fill.Post fill-Inv-loop fill-μ-loop
 fill-advance-requires t c κs = (c .before .before .before .before .before .pre .1 .arrays, omega (arith, c .before .before .before .before .before .pre .1 .outputs-high))
@@ -141,7 +141,7 @@ pub +fill-spec : {M : Type 1} → statement M
     (fill-same-length t)
     (fill-returns t)
     (fill-div-size t)
-    (fill-sub-after t)
+    (fill-present-after-requires t)
     (fill-loop-holds t)
     (fill-advance-requires t)
     (fill-mul-from t)

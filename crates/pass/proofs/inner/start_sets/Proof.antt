@@ -1,11 +1,11 @@
--- `start_bytes` meets its contract. The first s bytes are set.
+-- `start_sets` meets its contract. The first s sets are made.
 use mathlib.Core.Logic.{⊎-elim}
 use Prim.Native.Nat.{_≤_, _-_}
 use Rattle.pass.proofs.Steps.{Started, started-none, started-set, started-skip, started-all}
 use borrow.Author.Needs.{needs}
 use native.Mathlib.Omega.{arith}
-use Rattle.pass.proofs.inner.start_bytes.Statement.{statement}
-use Rattle.pass.proofs.inner.start_bytes.Tie as tie
+use Rattle.pass.proofs.inner.start_sets.Statement.{statement}
+use Rattle.pass.proofs.inner.start_sets.Tie as tie
 
 abbrev Inv-loop : tie.InvT-loop
 Inv-loop flags v₀ s₀ v s = (s ≤ 16) × Started flags s v
@@ -18,6 +18,9 @@ loop-holds c = (search needs, started-none)
 
 element-copy-out-if1 : tie.Need-element-copy-out-if1 Inv-loop μ-loop
 element-copy-out-if1 c = search needs
+
+mul-v : tie.Need-mul-v Inv-loop μ-loop
+mul-v c = search needs
 
 array-write-v : tie.Need-array-write-v Inv-loop μ-loop
 array-write-v c = search needs
@@ -37,14 +40,15 @@ loop-again c =
 returns : tie.Need-returns Inv-loop μ-loop
 returns c = started-all (c .before .loop .inv .1) (omega arith)
 
-pub start-bytes-spec : {M : Type 1} → statement M
-start-bytes-spec =
+pub start-sets-spec : {M : Type 1} → statement M
+start-sets-spec =
     tie.close
     (tie.spec
     Inv-loop
     μ-loop
     loop-holds
     element-copy-out-if1
+    mul-v
     array-write-v
     add-s
     loop-less
