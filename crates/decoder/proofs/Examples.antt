@@ -15,7 +15,7 @@ use Rattle.coder.specs.File.{within, inRange, entryInRange, headerRefusal, file
 use Rattle.coder.specs.Table.{table, coderOf}
 use Rattle.chains.specs.Chain.{isEntry, hasKey, over}
 use Rattle.pass.specs.Answer.{meaning, Right}
-use Rattle.pass.specs.Pass.{union, given, add, advance, pass, unionOf, answerOf, decoded}
+use Rattle.pass.specs.Pass.{union, given, add, added, pass, unionOf, answerOf, decoded}
 use Rattle.pass.specs.declared.Answer.{Answer}
 use Rattle.pass.specs.declared.Answer.the-variants.{Letter, None, Several}
 use Rattle.pass.proofs.Meaning.{right-byte}
@@ -81,7 +81,7 @@ A-accepted = refl
 
 -- a buffer of five bytes, of which the last stays
 pub A-table : TablePromise fileA 1 0 (9 ∷ 9 ∷ 9 ∷ 9 ∷ 9 ∷ []) (Done 4) (0 ∷ 1 ∷ 1 ∷ 0 ∷ 9 ∷ [])
-unfolding tableRefusal sidesRefusal windowAt decoded pass advance add given union unionOf answerOf leadingZeros coderOf table entryOf over hasKey isEntry
+unfolding tableRefusal sidesRefusal windowAt decoded pass added add given union unionOf answerOf leadingZeros coderOf table entryOf over hasKey isEntry
 A-table = filled fileA 1 0 (9 ∷ 9 ∷ 9 ∷ 9 ∷ 9 ∷ []) (0 ∷ 1 ∷ 1 ∷ 0 ∷ []) (rw A-accepted) refl
 
 -- ---- D: its table for the window 0 1 is 0 1 0 1
@@ -95,7 +95,7 @@ unfolding fileRefusal headerRefusal inRange within entryInRange allBelow
 D-accepted = refl
 
 pub D-table : TablePromise fileD 0 1 (9 ∷ 9 ∷ 9 ∷ 9 ∷ []) (Done 4) (0 ∷ 1 ∷ 0 ∷ 1 ∷ [])
-unfolding tableRefusal sidesRefusal windowAt decoded pass advance add given union unionOf answerOf leadingZeros coderOf table entryOf over hasKey isEntry
+unfolding tableRefusal sidesRefusal windowAt decoded pass added add given union unionOf answerOf leadingZeros coderOf table entryOf over hasKey isEntry
 D-table = filled fileD 0 1 (9 ∷ 9 ∷ 9 ∷ 9 ∷ []) (0 ∷ 1 ∷ 0 ∷ 1 ∷ []) (rw D-accepted) refl
 
 -- ---- G: a letter, none, several
@@ -110,19 +110,19 @@ unfolding fileRefusal headerRefusal inRange within entryInRange allBelow
 G-accepted = refl
 
 pub G-letter-0 : WindowPromise fileG 0 1 (0 ∷ 0 ∷ []) (Answered (Letter 0))
-unfolding windowRefusal sidesRefusal decoded pass advance add given union unionOf answerOf leadingZeros coderOf table entryOf over hasKey isEntry
+unfolding windowRefusal sidesRefusal decoded pass added add given union unionOf answerOf leadingZeros coderOf table entryOf over hasKey isEntry
 G-letter-0 = answered fileG 0 1 (0 ∷ 0 ∷ []) (Letter 0) (rw G-accepted) refl
 
 pub G-letter-1 : WindowPromise fileG 0 1 (0 ∷ 2 ∷ []) (Answered (Letter 1))
-unfolding windowRefusal sidesRefusal decoded pass advance add given union unionOf answerOf leadingZeros coderOf table entryOf over hasKey isEntry
+unfolding windowRefusal sidesRefusal decoded pass added add given union unionOf answerOf leadingZeros coderOf table entryOf over hasKey isEntry
 G-letter-1 = answered fileG 0 1 (0 ∷ 2 ∷ []) (Letter 1) (rw G-accepted) refl
 
 pub G-none : WindowPromise fileG 0 1 (1 ∷ 2 ∷ []) (Answered None)
-unfolding windowRefusal sidesRefusal decoded pass advance add given union unionOf answerOf leadingZeros coderOf table entryOf over hasKey isEntry
+unfolding windowRefusal sidesRefusal decoded pass added add given union unionOf answerOf leadingZeros coderOf table entryOf over hasKey isEntry
 G-none = answered fileG 0 1 (1 ∷ 2 ∷ []) None (rw G-accepted) refl
 
 pub G-several : WindowPromise fileG 0 0 (0 ∷ []) (Answered Several)
-unfolding windowRefusal sidesRefusal decoded pass advance add given union unionOf answerOf leadingZeros coderOf table entryOf over hasKey isEntry
+unfolding windowRefusal sidesRefusal decoded pass added add given union unionOf answerOf leadingZeros coderOf table entryOf over hasKey isEntry
 G-several = answered fileG 0 0 (0 ∷ []) Several (rw G-accepted) refl
 
 -- with one letter too few the call is refused with 9

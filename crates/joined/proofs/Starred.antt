@@ -21,7 +21,7 @@ use Rattle.coder.proofs.Accepted.{accepted}
 use Rattle.coder.proofs.Tables.{total}
 use Rattle.chains.specs.Chain.{isEntry, hasKey, over}
 use Rattle.pass.specs.Answer.{meaning}
-use Rattle.pass.specs.Pass.{union, given, add, advance, pass, unionOf, answerOf, decoded}
+use Rattle.pass.specs.Pass.{union, given, add, added, pass, unionOf, answerOf, decoded}
 use Rattle.pass.specs.declared.Answer.{Answer}
 use Rattle.pass.specs.declared.Answer.the-variants.{Letter, None, Several}
 use Rattle.pass.proofs.Meaning.{right-byte}
@@ -122,7 +122,7 @@ cases-hold (c ∷ cs) e =
     (z, claims-hold (c .file) z (c .claims) (u .0), cases-hold cs (u .1))
 
 passed : testCases starred ≡ true
-unfolding test leastTest later worksTest agree allWords validTest closesTest differentTest allBelow fileRefusal headerRefusal inRange within entryInRange machineOf entryOf coderOf table tableAt decoded pass advance add given union unionOf answerOf leadingZeros hasKey isEntry over windowAt
+unfolding test leastTest later worksTest agree allWords validTest closesTest differentTest allBelow fileRefusal headerRefusal inRange within entryInRange machineOf entryOf coderOf table tableAt decoded pass added add given union unionOf answerOf leadingZeros hasKey isEntry over windowAt
 passed = refl
 
 -- every starred case: its file is accepted, and all that is claimed of it holds

@@ -18,7 +18,7 @@ use Rattle.coder.specs.declared.inner.tables.Coder.{Coder}
 use Rattle.coder.proofs.Refusals.{both-true}
 use Rattle.chains.specs.Chain.{isEntry, hasKey, over}
 use Rattle.chains.proofs.Entries.{is-entry}
-use Rattle.pass.specs.Pass.{union, given, add, advance}
+use Rattle.pass.specs.Pass.{union, given, add, added, advance}
 use Rattle.pass.proofs.Steps.{hasOutput}
 use Rattle.pass.proofs.Words.{Holds, holds-none, holds-one, holds-map, holds-empty, holds-greatest, holds-union}
 
@@ -193,7 +193,7 @@ module _ (c : Coder) (sound : Sound c) (Q : Sets) (v : List ℕ) (o : ℕ) (here
           }
 
   pub advance-holds : (t : ℕ) → t < 16 → Holds (After M Q o here t) (getD (advance c v o here) t 0)
-  unfolding advance
+  unfolding added
   advance-holds t l =
       holds-map (λ x. ⊎-elim absurd (after t x)) (λ x a. inr (before t x a))
       (over-holds 256 (λ s x. ⊥) (replicate 16 0) refl (λ s m. rw (getD-replicate {A = ℕ} 16 s 0 0 m) (holds-none (λ x f. f))) t l)

@@ -18,7 +18,7 @@ use Rattle.coder.proofs.Refusals.{both-true}
 use Rattle.coder.proofs.Fill.{length-table, getD-table}
 use Rattle.chains.specs.Chain.{isEntry, hasKey, lastBelow, over}
 use Rattle.chains.proofs.Chains.{last-bound, last-passes, over-last, over-step}
-use Rattle.pass.specs.Pass.{union, given, add, advance, pass, startSets, unionOf, greatest, answerOf, decoded, Arrays, ArraysOf}
+use Rattle.pass.specs.Pass.{union, given, add, added, advance, pass, startSets, unionOf, greatest, answerOf, decoded, Arrays, ArraysOf}
 use Rattle.pass.specs.declared.Answer.{Answer}
 use Rattle.pass.specs.declared.Answer.the-variants.{Letter, Several}
 use Rattle.pass.proofs.Words.{one-shifted}
@@ -113,7 +113,7 @@ module _ {c : Coder} {next last previous : List ℕ} (a : ArraysOf c next last p
         ap (λ k. lastBelow (hasOutput c k) p) (eqb-true _ _ (h .1))
 
 -- The walk along the chain of o has come to the entry with number q, and the sets are `to`.
-pub record Walked (next last previous v : List ℕ) (o : ℕ) (here : Bool) (to : List ℕ) (q : ℕ) : Type 0 where
+pub record Walked (next last previous v : List ℕ) (o : ℕ) (here : Bool) (from to : List ℕ) (q : ℕ) : Type 0 where
   pub size : length to ≡ 16
   pub bound : q ≤ 256
   pub entry :
@@ -121,7 +121,7 @@ pub record Walked (next last previous v : List ℕ) (o : ℕ) (here : Bool) (to 
       hasOutput c o p ≡ true
   pub rest :
       (c : Coder) → ArraysOf c next last previous →
-      over (hasOutput c o) (add (c .next) v here) to q ≡ advance c v o here
+      over (hasOutput c o) (add (c .next) v here) to q ≡ added c v o here from
 
 module _ {next last previous : List ℕ} where
   pub next-below : Arrays next last previous → (p : ℕ) → getD next p 0 < 16
@@ -131,19 +131,19 @@ module _ {next last previous : List ℕ} where
   last-high a o l = rw (last-is (a .is) o l) (last-bound (hasOutput (a .coder) o) 256)
 
   pub walked-none :
-      {v : List ℕ} {o : ℕ} {here : Bool} → Arrays next last previous → o < 64 →
-      Walked next last previous v o here (replicate 16 0) (getD last o 0)
-  unfolding advance
-  walked-none {v} {o} {here} a l =
+      {v from : List ℕ} {o : ℕ} {here : Bool} → Arrays next last previous → o < 64 → length from ≡ 16 →
+      Walked next last previous v o here from from (getD last o 0)
+  unfolding added
+  walked-none {v} {from} {o} {here} a l z =
       record {
-        size = refl;
+        size = z;
         bound = last-high a o l;
         entry = λ c b p e. last-passes (hasOutput c o) 256 p (sym (last-is b o l) ∙ e);
         rest = λ c b.
-            rw (last-is b o l) (sym (over-last (hasOutput c o) (add (c .next) v here) (replicate 16 0) 256));
+            rw (last-is b o l) (sym (over-last (hasOutput c o) (add (c .next) v here) from 256));
       }
 
-  module _ {v : List ℕ} {o : ℕ} {here : Bool} {to : List ℕ} {q : ℕ} (w : Walked next last previous v o here to q)
+  module _ {v from to : List ℕ} {o q : ℕ} {here : Bool} (w : Walked next last previous v o here from to q)
       (a : Arrays next last previous) (p : ℕ) (e : q ≡ suc p) where
     pub previous-high : getD previous p 0 ≤ p
     previous-high =
@@ -151,7 +151,7 @@ module _ {next last previous : List ℕ} where
         (last-bound (hasOutput (a .coder) o) p)
 
     walked-more :
-        {to′ : List ℕ} → length to′ ≡ 16 → to′ ≡ add next v here to p → Walked next last previous v o here to′ (getD previous p 0)
+        {to′ : List ℕ} → length to′ ≡ 16 → to′ ≡ add next v here to p → Walked next last previous v o here from to′ (getD previous p 0)
     walked-more {to′} z f =
         let l : p < 256 = let b = w .bound in omega arith in
         record {
@@ -167,13 +167,13 @@ module _ {next last previous : List ℕ} where
 
     pub walked-add :
         {x r : ℕ} → x ≡ given here p (getD v (p / 16) 0) → r ≡ union (getD to (getD next p 0) 0) x →
-        Walked next last previous v o here (set to (getD next p 0) r) (getD previous p 0)
+        Walked next last previous v o here from (set to (getD next p 0) r) (getD previous p 0)
     unfolding add
     walked-add {x} {r} ex er = walked-more (length-set to (getD next p 0) r ∙ w .size) (rw (er, ex))
 
   pub walked-all :
-      {v : List ℕ} {o : ℕ} {here : Bool} {to : List ℕ} {q : ℕ} → Walked next last previous v o here to q → q ≡ 0 →
-      (c : Coder) → ArraysOf c next last previous → to ≡ advance c v o here
+      {v from to : List ℕ} {o q : ℕ} {here : Bool} → Walked next last previous v o here from to q → q ≡ 0 →
+      (c : Coder) → ArraysOf c next last previous → to ≡ added c v o here from
   unfolding over
   walked-all w e c a = rw e at (w .rest c a)
 

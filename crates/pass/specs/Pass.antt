@@ -28,9 +28,13 @@ unfoldable pub add : List ℕ → List ℕ → Bool → List ℕ → ℕ → Lis
 add next v here to p =
     set to (getD next p 0) (union (getD to (getD next p 0) 0) (given here p (getD v (p / 16) 0)))
 
+-- the sets `to` and what all entries with the received letter o give
+unfoldable pub added : Coder → List ℕ → ℕ → Bool → List ℕ → List ℕ
+added c v o here to = over (hasKey (c .output) (c .states) (c .inputs) o) (add (c .next) v here) to 256
+
 -- the sets of the states one received letter o later
-unfoldable pub advance : Coder → List ℕ → ℕ → Bool → List ℕ
-advance c v o here = over (hasKey (c .output) (c .states) (c .inputs) o) (add (c .next) v here) (replicate 16 0) 256
+abbrev pub advance : Coder → List ℕ → ℕ → Bool → List ℕ
+advance c v o here = added c v o here (replicate 16 0)
 
 -- the sets after all letters of w, of which letter p, counted from 1, is the present one
 unfoldable pub pass : Coder → List ℕ → List ℕ → ℕ → List ℕ

@@ -6,12 +6,12 @@ ghost use Rattle.mealy.specs.Machine.{Letters};
 ghost use Rattle.mealy.specs.Answer.{byteOf};
 ghost use Rattle.coder.specs.declared.inner.tables.Coder.{Coder};
 ghost use Rattle.pass.specs.Answer.{meaning};
-ghost use Rattle.pass.specs.Pass.{Arrays, ArraysOf, given as givenOf, union as unionSpec, advance as advanced, pass as passed, startSets, unionOf, answerOf, decoded};
+ghost use Rattle.pass.specs.Pass.{Arrays, ArraysOf, given as givenOf, union as unionSpec, added, pass as passed, startSets, unionOf, answerOf, decoded};
 use crate::Answer;
 use coder::inner::bytes::byte;
 
 // A set of letters is a word: bit x is set where letter x is in it.
-const EMPTY: u16 = 0;
+pub const EMPTY: u16 = 0;
 
 // The union of two sets.
 pub fn union(u: u16, v: u16) -> u16
@@ -31,7 +31,7 @@ fn given(here: bool, p: usize, u: u16) -> u16
     if here { 1u16 << (p % 16) } else { u }
 }
 
-// The sets of the states one received letter later.
+// Adds to the sets `to` what the states with the sets v give to their next states on one received letter.
 pub fn advance<'a>(
     next: &'a [u8; 256],
     last: &'a [u16; 64],
@@ -39,11 +39,11 @@ pub fn advance<'a>(
     v: &'a [u16; 16],
     o: usize,
     here: bool,
-) -> [u16; 16]
-    requires { ⌜ Arrays (now next) (now last) (now previous) × (o < 64) ⌝ }
-    ensures { λ r. ⌜ ((c : Coder) → ArraysOf c (now (next .entry)) (now (last .entry)) (now (previous .entry)) → r ≡ advanced c (now (v .entry)) o here) ⌝ }
+    to: &mut [u16; 16],
+)
+    requires { ⌜ Arrays (now next) (now last) (now previous) × (o < 64) × (length (now to) ≡ 16) ⌝ }
+    ensures { λ _. ⌜ ((c : Coder) → ArraysOf c (now (next .entry)) (now (last .entry)) (now (previous .entry)) → now (to .exit) ≡ added c (now (v .entry)) o here (now (to .entry))) ⌝ }
 {
-    let mut to = [EMPTY; 16];
     let mut q = last[o] as usize;
     while 0 < q {
         let p = q - 1;
@@ -52,7 +52,6 @@ pub fn advance<'a>(
         let t = next[p] as usize;
         to[t] = union(to[t], given(here, p, u));
     }
-    to
 }
 
 // The sets before the first letter: the start states are those whose flag is 1.
@@ -134,7 +133,8 @@ fn pass<'a>(
         return answer(v, states);
     }
     let o = byte(left, 0);
-    let to = advance(next, last, previous, v, o, present == 1);
+    let mut to = [EMPTY; 16];
+    advance(next, last, previous, v, o, present == 1, &mut to);
     let after = present_after(present);
     pass(next, last, previous, states, &to, &left[1..], after)
 }

@@ -4,6 +4,7 @@ ghost use Prim.Native.Nat.{ℕ, _≤_};
 ghost use Rattle.coder.specs.declared.inner.tables.Coder.{Coder};
 ghost use Rattle.pass.specs.Pass.{ArraysOf};
 ghost use Rattle.decoder.specs.Table.{sizeOf, FillAsked, Filled};
+use pass::inner::EMPTY;
 use pass::inner::advance;
 use pass::inner::answer;
 use pass::inner::answer_byte;
@@ -50,7 +51,8 @@ pub fn fill<'a>(
     let after = present_after(present);
     let mut o = 0;
     while o < outputs {
-        let to = advance(next, last, previous, v, o, present == 1);
+        let mut to = [EMPTY; 16];
+        advance(next, last, previous, v, o, present == 1, &mut to);
         let from = o * size;
         let end = from + size;
         fill(

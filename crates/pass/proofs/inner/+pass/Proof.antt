@@ -1,6 +1,6 @@
 -- The proof of the cycle of calls {pass}: the measure is the number of letters left. With none left the answer is that of the sets; with
 -- more, that of a call with one letter less.
-use mathlib.Core.Path.{ap, _∙_}
+use mathlib.Core.Path.{refl, ap, _∙_}
 use lib.ListN.{length, drop, length-drop}
 use denote.Ref.{now}
 use Rattle.mealy.proofs.ComesBack.{letters-take, letters-drop}
@@ -59,8 +59,11 @@ pass-byte-requires t c κs = search needs
 
 pass-advance-requires : (t : ℕ) → pass-lts.Need-advance-requires (claims t) (pass-at t) pass.Post
 pass-advance-requires t c κs =
-    let s = c .before .before .before in
-    (s .pre .1 .0, rw (c .byte .ensures .0) (letter-at 64 (now (s .args .left)) (s .pre .1 .1 .1) _ (let n = c .before .if1 .left in omega arith)))
+    let s = c .before .before .before .before in (
+      s .pre .1 .0,
+      rw (c .before .byte .ensures .0) (letter-at 64 (now (s .args .left)) (s .pre .1 .1 .1) _ (let n = c .before .before .if1 .left in omega arith)),
+      refl,
+    )
 
 pass-present-after-requires : (t : ℕ) → pass-lts.Need-present-after-requires (claims t) (pass-at t) pass.Post
 pass-present-after-requires t c κs = search needs
@@ -76,17 +79,19 @@ pass-part-pass-end t c = search needs
 
 pass-pass-requires : (t : ℕ) → pass-lts.Need-pass-requires (claims t) (pass-at t) pass.Post
 pass-pass-requires t c κs =
-    let s = c .before .before .before .before .before .before .before in
+    let s = c .before .before .before .before .before .before .before .before in
     let w = now (s .args .left) in
-    let n = c .before .before .before .before .before .if1 .left in
-    (rw (rest w) (omega (arith, s .pre .0, n, length-drop 1 w)), (s .pre .1 .0, (s .pre .1 .1 .0, letters-take 64 (length w - 1) (drop 1 w) (letters-drop 64 1 w (s .pre .1 .1 .1)))))
+    let n = c .before .before .before .before .before .before .if1 .left in (
+      rw (rest w) (omega (arith, s .pre .0, n, length-drop 1 w)),
+      (s .pre .1 .0, (s .pre .1 .1 .0, letters-take 64 (length w - 1) (drop 1 w) (letters-drop 64 1 w (s .pre .1 .1 .1)))),
+    )
 
 pass-returns-2 : (t : ℕ) → pass-lts.Need-returns-2 (claims t) (pass-at t) pass.Post
 pass-returns-2 t c = λ d a e.
-    let s = c .before .before .before .before .before .before .before .before in
+    let s = c .before .before .before .before .before .before .before .before .before in
     c .pass .ensures d a e ∙
     ap (λ x. answerOf (unionOf (s .args .states) x))
-    (passed-more d (now (s .args .v)) (s .args .present) (now (s .args .left)) (c .before .before .before .before .before .before .if1 .left) (c .before .before .before .before .before .byte .ensures .0)
+    (passed-more d (now (s .args .v)) (s .args .present) (now (s .args .left)) (c .before .before .before .before .before .before .before .if1 .left) (c .before .before .before .before .before .before .byte .ensures .0)
     (c .before .before .before .before .advance .ensures d a) (c .before .before .before .present-after .ensures))
 
 pub +pass-spec : {M : Type 1} → statement M

@@ -7,7 +7,7 @@ use Rattle.pass.proofs.inner.advance.Statement.{statement}
 use Rattle.pass.proofs.inner.advance.Tie as tie
 
 abbrev Inv-loop : tie.InvT-loop
-Inv-loop next last previous v o here to₀ q₀ to q = Walked next last previous v o here to q
+Inv-loop next last previous v o here to₀ q₀ to q = Walked next last previous v o here to₀ to q
 
 abbrev μ-loop : tie.MeasureT-loop
 μ-loop next last previous v o here to₀ q₀ to q = q
@@ -22,7 +22,7 @@ cast-q : tie.Need-cast-q Inv-loop μ-loop
 cast-q c = omega (arith, last-high (c .before .pre .0) (c .before .args .o) (c .before .pre .1))
 
 loop-holds : tie.Need-loop-holds Inv-loop μ-loop
-loop-holds c = walked-none (c .before .pre .0) (c .before .pre .1)
+loop-holds c = walked-none (c .before .pre .0) (c .before .pre .1) (c .before .pre .2)
 
 sub-p : tie.Need-sub-p Inv-loop μ-loop
 sub-p c = search needs
@@ -53,8 +53,8 @@ cast-t c = omega (arith, next-below (c .before .before .before .before .before .
 mul-union : tie.Need-mul-union Inv-loop μ-loop
 mul-union c = omega (arith, next-below (c .before .before .before .before .before .before .pre .0) (c .before .before .before .before .loop .q - 1))
 
-array-read-union : tie.Need-array-read-union Inv-loop μ-loop
-array-read-union c = next-below (c .before .before .before .before .before .before .pre .0) _
+element-copy-out-union : tie.Need-element-copy-out-union Inv-loop μ-loop
+element-copy-out-union c = next-below (c .before .before .before .before .before .before .pre .0) _
 
 given-requires : tie.Need-given-requires Inv-loop μ-loop
 given-requires c κs = search needs
@@ -63,20 +63,20 @@ union-requires : tie.Need-union-requires Inv-loop μ-loop
 union-requires c κs = search needs
 
 mul-to : tie.Need-mul-to Inv-loop μ-loop
-mul-to c = omega (arith, next-below (c .before .before .before .before .before .before .before .before .pre .0) (c .before .before .before .before .before .before .loop .q - 1))
+mul-to c = omega (arith, next-below (c .before .before .before .before .before .before .before .before .before .pre .0) (c .before .before .before .before .before .before .before .loop .q - 1))
 
-array-write-to : tie.Need-array-write-to Inv-loop μ-loop
-array-write-to c = next-below (c .before .before .before .before .before .before .before .before .pre .0) _
+element-write-to : tie.Need-element-write-to Inv-loop μ-loop
+element-write-to c = next-below (c .before .before .before .before .before .before .before .before .before .pre .0) _
 
 loop-less : tie.Need-loop-less Inv-loop μ-loop
 loop-less c =
-    let i = c .before .before .before .before .before .before .loop in
-    omega (arith, previous-high (i .inv) (c .before .before .before .before .before .before .before .before .pre .0) (i .q - 1) (omega arith))
+    let i = c .before .before .before .before .before .before .before .loop in
+    omega (arith, previous-high (i .inv) (c .before .before .before .before .before .before .before .before .before .pre .0) (i .q - 1) (omega arith))
 
 loop-again : tie.Need-loop-again Inv-loop μ-loop
 loop-again c =
-    let i = c .before .before .before .before .before .before .loop in
-    walked-add (i .inv) (c .before .before .before .before .before .before .before .before .pre .0) (i .q - 1) (omega arith) (c .before .given .ensures) (c .union .ensures)
+    let i = c .before .before .before .before .before .before .before .loop in
+    walked-add (i .inv) (c .before .before .before .before .before .before .before .before .before .pre .0) (i .q - 1) (omega arith) (c .before .given .ensures) (c .union .ensures)
 
 returns : tie.Need-returns Inv-loop μ-loop
 returns c = walked-all (c .before .loop .inv) (omega arith)
@@ -100,11 +100,11 @@ advance-spec =
     element-copy-out-t
     cast-t
     mul-union
-    array-read-union
+    element-copy-out-union
     given-requires
     union-requires
     mul-to
-    array-write-to
+    element-write-to
     loop-less
     loop-again
     returns)

@@ -1,6 +1,6 @@
 -- The proof of the cycle of calls {fill}: the measure is `left`. A part with no letter left is one byte; a part with more is filled
 -- letter by letter, each letter's part by a call with one letter less.
-use mathlib.Core.Path.{sym, ap, _∙_}
+use mathlib.Core.Path.{refl, sym, ap, _∙_}
 use native.Mathlib.Omega.{arith}
 use borrow.Author.Needs.{needs}
 use denote.Ref.{now}
@@ -79,13 +79,15 @@ fill-loop-holds : (t : ℕ) → fill-lts.Need-loop-holds (claims t) (fill-at t) 
 fill-loop-holds t c = filling-start (c .before .before .before .pre .1) (omega arith) (c .present-after .ensures)
 
 fill-advance-requires : (t : ℕ) → fill-lts.Need-advance-requires (claims t) (fill-at t) fill.Post fill-Inv-loop fill-μ-loop
-fill-advance-requires t c κs = (c .before .before .before .before .before .pre .1 .arrays, omega (arith, c .before .before .before .before .before .pre .1 .outputs-high))
+fill-advance-requires t c κs =
+    let p = c .before .before .before .before .before .before .pre .1 in
+    (p .arrays, omega (arith, p .outputs-high), refl)
 
 fill-mul-from : (t : ℕ) → fill-lts.Need-mul-from (claims t) (fill-at t) fill.Post fill-Inv-loop fill-μ-loop
-fill-mul-from t c = omega (arith, filling-room (c .before .before .loop .inv) (c .before .loop-test .taken), c .before .before .loop .inv, c .before .before .before .before .before .before)
+fill-mul-from t c = omega (arith, filling-room (c .before .before .before .loop .inv) (c .before .before .loop-test .taken), c .before .before .before .loop .inv, c .before .before .before .before .before .before .before)
 
 fill-add-end : (t : ℕ) → fill-lts.Need-add-end (claims t) (fill-at t) fill.Post fill-Inv-loop fill-μ-loop
-fill-add-end t c = omega (arith, filling-room (c .before .before .loop .inv) (c .before .loop-test .taken), c .before .before .loop .inv, c .before .before .before .before .before .before)
+fill-add-end t c = omega (arith, filling-room (c .before .before .before .loop .inv) (c .before .before .loop-test .taken), c .before .before .before .loop .inv, c .before .before .before .before .before .before .before)
 
 fill-sub-fill : (t : ℕ) → fill-lts.Need-sub-fill (claims t) (fill-at t) fill.Post fill-Inv-loop fill-μ-loop
 fill-sub-fill t c = search needs
@@ -97,18 +99,18 @@ fill-part-fill-start : (t : ℕ) → fill-lts.Need-part-fill-start (claims t) (f
 fill-part-fill-start t c = omega arith
 
 fill-part-fill-end : (t : ℕ) → fill-lts.Need-part-fill-end (claims t) (fill-at t) fill.Post fill-Inv-loop fill-μ-loop
-fill-part-fill-end t c = omega (arith, filling-room (c .before .before .before .loop .inv) (c .before .before .loop-test .taken))
+fill-part-fill-end t c = omega (arith, filling-room (c .before .before .before .before .loop .inv) (c .before .before .before .loop-test .taken))
 
 fill-fill-requires : (t : ℕ) → fill-lts.Need-fill-requires (claims t) (fill-at t) fill.Post fill-Inv-loop fill-μ-loop
-fill-fill-requires t c κs = let p = c .before .before .before .before .before .before .before .before .pre in
-    let i = c .before .before .before .before .loop .inv in (
+fill-fill-requires t c κs = let p = c .before .before .before .before .before .before .before .before .before .pre in
+    let i = c .before .before .before .before .before .loop .inv in (
       omega (arith, i .more, p .0),
       record {
         arrays = p .1 .arrays;
         states-high = p .1 .states-high;
         outputs-low = p .1 .outputs-low;
         outputs-high = p .1 .outputs-high;
-        size = filling-part i (c .before .before .before .loop-test .taken);
+        size = filling-part i (c .before .before .before .before .loop-test .taken);
       },
     )
 
@@ -116,11 +118,11 @@ fill-add-o : (t : ℕ) → fill-lts.Need-add-o (claims t) (fill-at t) fill.Post 
 fill-add-o t c = search needs
 
 fill-loop-less : (t : ℕ) → fill-lts.Need-loop-less (claims t) (fill-at t) fill.Post fill-Inv-loop fill-μ-loop
-fill-loop-less t c = omega (arith, c .before .before .before .before .before .before .loop-test .taken)
+fill-loop-less t c = omega (arith, c .before .before .before .before .before .before .before .loop-test .taken)
 
 fill-loop-again : (t : ℕ) → fill-lts.Need-loop-again (claims t) (fill-at t) fill.Post fill-Inv-loop fill-μ-loop
 fill-loop-again t c =
-    filling-more (c .before .before .before .before .before .before .before .loop .inv) _ _ (c .before .before .before .before .before .before .loop-test .taken) (c .before .before .before .before .before .advance .ensures)
+    filling-more (c .before .before .before .before .before .before .before .before .loop .inv) _ _ (c .before .before .before .before .before .before .before .loop-test .taken) (c .before .before .before .before .before .advance .ensures)
     (c .before .before .fill .ensures) (c .before .before .fill .kept .1 .1 .1 .1 .1 .1 .1 .1 .0)
 
 fill-same-length-2 : (t : ℕ) → fill-lts.Need-same-length-2 (claims t) (fill-at t) fill.Post fill-Inv-loop fill-μ-loop
