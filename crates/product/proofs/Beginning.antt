@@ -4,7 +4,7 @@ use mathlib.Core.Bool.{Bool, true, false}
 use mathlib.Core.List.{List, []}
 use Prim.Native.Nat.{ℕ, _+_, _*_, _/_, _%_, _≤_, _<_}
 use native.Mathlib.Omega.{arith}
-use native.Mathlib.Decide.{ℕ-discrete}
+use native.Mathlib.Decide.{ℕ-discrete, decLt}
 use borrow.Author.Count.{below-more}
 use lib.ListN.{length, getD, set, replicate, length-set, getD-replicate}
 use lib.Seq.{getD-set-same, getD-set-other}
@@ -57,6 +57,15 @@ module _ (test : ℕ → ℕ → Bool) where
       zero-from = λ u v l m n. f .zero-from u v l m (omega arith);
     }
 
+  -- where the test fails from place a on, that is all
+  pub filled-all :
+      {a : ℕ} {d : List (List ℕ)} → FilledTo a d → ((u v : ℕ) → a ≤ 16 * u + v → v < 16 → test u v ≡ false) → (u v : ℕ) → u < 16 → v < 16 →
+      at d u v ≡ pick (test u v) 255 0
+  filled-all {a} f none u v l m = elim (decLt (16 * u + v) a) [
+    | yes n ↦ f .is u v l m n
+    | no n ↦ f .zero-from u v l m (omega arith) ∙ rw (none u v (omega arith) m)
+  ]
+
 -- ---- the first edges
 
 pub record FirstEdgesTo (last : List ℕ) (a : ℕ) (xs ys : List ℕ) : Type 0 where
@@ -79,7 +88,7 @@ edges-more {last} {xs} {ys} {a} f l = record {
       (getD-set-same ys a _ 0 (omega (arith, f .kept .seconds)));
 }
 
-pub edges-all : {last xs ys : List ℕ} {a : ℕ} → FirstEdgesTo last a xs ys → a ≡ 256 → FirstEdges last xs ys
+pub edges-all : {last xs ys : List ℕ} {a n : ℕ} → FirstEdgesTo last a xs ys → 16 * n ≤ a → FirstEdges last n xs ys
 edges-all {last} f e = record {
   kept = f .kept;
   first = λ u v l m. let p : (16 * u + v) / 16 ≡ u = omega arith in f .first (16 * u + v) (omega arith) ∙ ap (λ j. getD last j 0) p;

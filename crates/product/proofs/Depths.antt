@@ -100,13 +100,13 @@ module _ (c : Coder) (d : Direction) (flags : List ℕ) (sound : Sound c) where
               high = omega arith;
             }
 
-    module _ {last previous output far′ xs ys : List ℕ} (arrays : ArraysOf c d last previous output far′) (f : FirstEdges last xs ys) where
-      seeking-start : (u v : ℕ) → u < 16 → v < 16 → Seeking c d (L 0) u v (edgeAt xs ys u v .x) (edgeAt xs ys u v .y)
+    module _ {last previous output far′ xs ys : List ℕ} (arrays : ArraysOf c d last previous output far′) (f : FirstEdges last (c .states) xs ys) where
+      seeking-start : (u v : ℕ) → u < c .states → v < 16 → Seeking c d (L 0) u v (edgeAt xs ys u v .x) (edgeAt xs ys u v .y)
       seeking-start u v l m =
-          rw (f .first u v l m ∙ last-is c d sound arrays u (omega arith), f .second u v l m ∙ last-is c d sound arrays v (omega arith))
+          rw (f .first u v l m ∙ last-is c d sound arrays u (let n = sound .states-high in omega arith), f .second u v l m ∙ last-is c d sound arrays v (omega arith))
           record {
             column = m;
-            on₁ = chain-last c d sound u 256 (omega arith);
+            on₁ = chain-last c d sound u 256 (let n = sound .states-high in omega arith);
             on₂ = chain-last c d sound v 256 (omega arith);
             none-before = record {
               first = λ p q j s. last-above _ p 256 (has-key _ _ _ u p (j .entry₁) (j .near₁)) (entry-below c sound p (j .entry₁));
@@ -119,7 +119,7 @@ module _ (c : Coder) (d : Direction) (flags : List ℕ) (sound : Sound c) where
         shape = h .shape;
         kept = f .kept;
         right = right-start;
-        seeking = λ u v l m e. seeking-start u v l m;
+        seeking = λ u v l m e. let q : L 0 u v = right-start u v l m .stands 0 (omega arith) (omega arith) in seeking-start u v (q .0 .0) m;
       }
 
   -- ---- from one round to the next

@@ -124,11 +124,11 @@ pub record Started (n : ℕ) (flags : List ℕ) (square : List (List ℕ)) : Typ
   pub shape : Square square
   pub is : (u v : ℕ) → u < 16 → v < 16 → at square u v ≡ pick (both (startFlag n flags u) (startFlag n flags v)) 255 0
 
--- the first edge of each pair
-pub record FirstEdges (last xs ys : List ℕ) : Type 0 where
+-- the first edge of each pair whose first state is below n
+pub record FirstEdges (last : List ℕ) (n : ℕ) (xs ys : List ℕ) : Type 0 where
   pub kept : Kept xs ys
-  pub first : (u v : ℕ) → u < 16 → v < 16 → edgeAt xs ys u v .x ≡ getD last u 0
-  pub second : (u v : ℕ) → u < 16 → v < 16 → edgeAt xs ys u v .y ≡ getD last v 0
+  pub first : (u v : ℕ) → u < n → v < 16 → edgeAt xs ys u v .x ≡ getD last u 0
+  pub second : (u v : ℕ) → u < n → v < 16 → edgeAt xs ys u v .y ≡ getD last v 0
 
 -- each endless pair has an edge to an endless pair
 pub record EndlessEdges (c : Coder) (d : Direction) (square : List (List ℕ)) (xs ys : List ℕ) : Type 0 where

@@ -160,11 +160,13 @@ fn both_start(states: usize, flags: &[u8; 16], u: usize, v: usize) -> bool
 
 // The depths before the first round.
 fn start_square(states: usize, flags: &[u8; 16]) -> [[u8; 16]; 16]
+    requires { ⌜ states ≤ 16 ⌝ }
     ensures { λ r. ⌜ Started states (now (flags .entry)) r ⌝ }
 {
+    let end = 16 * states;
     let mut d = [[0u8; 16]; 16];
     let mut a = 0;
-    while a < 256 {
+    while a < end {
         let u = a / 16;
         let v = a % 16;
         a += 1;
@@ -176,12 +178,13 @@ fn start_square(states: usize, flags: &[u8; 16]) -> [[u8; 16]; 16]
 }
 
 // The first edge of each pair.
-fn first_edges(last: &[u16; 64], xs: &mut [u16; 256], ys: &mut [u16; 256])
-    requires { ⌜ Kept (now xs) (now ys) ⌝ }
-    ensures { λ _. ⌜ FirstEdges (now (last .entry)) (now (xs .exit)) (now (ys .exit)) ⌝ }
+fn first_edges(last: &[u16; 64], states: usize, xs: &mut [u16; 256], ys: &mut [u16; 256])
+    requires { ⌜ Kept (now xs) (now ys) × (states ≤ 16) ⌝ }
+    ensures { λ _. ⌜ FirstEdges (now (last .entry)) states (now (xs .exit)) (now (ys .exit)) ⌝ }
 {
+    let end = 16 * states;
     let mut a = 0;
-    while a < 256 {
+    while a < end {
         xs[a] = last[a / 16];
         ys[a] = last[a % 16];
         a += 1;
@@ -204,7 +207,7 @@ fn along<'a>(
     let states = c.states;
     let inputs = c.inputs;
     let chain = chains::inner::by_key(near, states, inputs);
-    first_edges(&chain.last, xs, ys);
+    first_edges(&chain.last, states, xs, ys);
     let mut d = start_square(states, flags);
     let mut k: u8 = 0;
     loop {

@@ -21,10 +21,10 @@ by-key-requires : tie.Need-by-key-requires Inv-loop μ-loop
 by-key-requires c κs = rw (c .pre .near-is) (near-keys _ (c .pre .sound) (c .pre .d))
 
 first-edges-requires : tie.Need-first-edges-requires Inv-loop μ-loop
-first-edges-requires c κs = c .before .before .before .before .before .pre .kept
+first-edges-requires c κs = let p = c .before .before .before .before .before .pre in (p .kept, p .sound .states-high)
 
 start-square-requires : tie.Need-start-square-requires Inv-loop μ-loop
-start-square-requires c κs = search needs
+start-square-requires c κs = c .before .before .before .before .before .before .pre .sound .states-high
 
 loop-holds : tie.Need-loop-holds Inv-loop μ-loop
 loop-holds c = (omega arith, λ w n f. before-start _ w _ (c .before .before .before .before .before .before .before .pre .sound) (c .start-square .ensures) (arrays-of _ w (c .before .before .before .before .before .before .before .pre .sound) _ (rw n at (c .before .before .before .before .before .before .by-key .ensures)) _ f) (c .before .first-edges .ensures))

@@ -1,4 +1,6 @@
-use Prim.Native.Nat.{_≤_, _-_}
+-- `first_edges` meets its contract. The first a places are set.
+use mathlib.Core.Path.{_≡_, refl}
+use Prim.Native.Nat.{_≤_, _-_, _*_}
 use Rattle.product.proofs.Beginning.{FirstEdgesTo, edges-start, edges-more, edges-all}
 use borrow.Author.Needs.{needs}
 use native.Mathlib.Omega.{arith}
@@ -6,13 +8,16 @@ use Rattle.product.proofs.inner.first_edges.Statement.{statement}
 use Rattle.product.proofs.inner.first_edges.Tie as tie
 
 abbrev Inv-loop : tie.InvT-loop
-Inv-loop last xs₀ ys₀ a₀ xs ys a = (a ≤ 256) × FirstEdgesTo last a xs ys
+Inv-loop last states xs₀ ys₀ end a₀ xs ys a = (a ≤ end) × (end ≡ 16 * states) × FirstEdgesTo last a xs ys
 
 abbrev μ-loop : tie.MeasureT-loop
-μ-loop last xs₀ ys₀ a₀ xs ys a = 256 - a
+μ-loop last states xs₀ ys₀ end a₀ xs ys a = end - a
+
+mul-end : tie.Need-mul-end Inv-loop μ-loop
+mul-end c = search needs
 
 loop-holds : tie.Need-loop-holds Inv-loop μ-loop
-loop-holds c = (search needs, edges-start (c .pre))
+loop-holds c = (search needs, refl, edges-start (c .pre .0))
 
 mul-xs : tie.Need-mul-xs Inv-loop μ-loop
 mul-xs c = search needs
@@ -45,10 +50,10 @@ loop-less : tie.Need-loop-less Inv-loop μ-loop
 loop-less c = search needs
 
 loop-again : tie.Need-loop-again Inv-loop μ-loop
-loop-again c = (search needs, edges-more (c .before .before .before .loop .inv .1) (omega arith))
+loop-again c = let i = c .before .before .before .loop .inv in (search needs, i .1, edges-more (i .2) (omega arith))
 
 returns : tie.Need-returns Inv-loop μ-loop
-returns c = edges-all (c .before .loop .inv .1) (omega arith)
+returns c = edges-all (c .before .loop .inv .2) (omega (arith, c .before .loop .inv .1))
 
 pub first-edges-spec : {M : Type 1} → statement M
 first-edges-spec =
@@ -56,6 +61,7 @@ first-edges-spec =
     (tie.spec
     Inv-loop
     μ-loop
+    mul-end
     loop-holds
     mul-xs
     element-copy-out-xs

@@ -1,7 +1,10 @@
-use Prim.Native.Nat.{_≤_, _-_}
+-- `start_square` meets its contract. The first a places are set, the others are 0.
+use mathlib.Core.Path.{_≡_, refl}
+use Prim.Native.Nat.{_≤_, _-_, _*_}
+use borrow.Author.Tests.{le-ltb}
 use Rattle.coder.specs.Refusal.{both}
 use Rattle.product.specs.Rounds.{startFlag}
-use Rattle.product.proofs.Beginning.{FilledTo, filled-start, filled-put, filled-skip}
+use Rattle.product.proofs.Beginning.{FilledTo, filled-start, filled-put, filled-skip, filled-all}
 use Rattle.coder.proofs.Refusals.{via}
 use borrow.Author.Needs.{needs}
 use native.Mathlib.Omega.{arith}
@@ -9,13 +12,16 @@ use Rattle.product.proofs.inner.start_square.Statement.{statement}
 use Rattle.product.proofs.inner.start_square.Tie as tie
 
 abbrev Inv-loop : tie.InvT-loop
-Inv-loop states flags d₀ a₀ d a = (a ≤ 256) × FilledTo (λ u v. both (startFlag states flags u) (startFlag states flags v)) a d
+Inv-loop states flags end d₀ a₀ d a = (a ≤ end) × (end ≡ 16 * states) × FilledTo (λ u v. both (startFlag states flags u) (startFlag states flags v)) a d
 
 abbrev μ-loop : tie.MeasureT-loop
-μ-loop states flags d₀ a₀ d a = 256 - a
+μ-loop states flags end d₀ a₀ d a = end - a
+
+mul-end : tie.Need-mul-end Inv-loop μ-loop
+mul-end c = search needs
 
 loop-holds : tie.Need-loop-holds Inv-loop μ-loop
-loop-holds c = (search needs, filled-start _)
+loop-holds c = (search needs, refl, filled-start _)
 
 add-a : tie.Need-add-a Inv-loop μ-loop
 add-a c = search needs
@@ -36,16 +42,18 @@ loop-less : tie.Need-loop-less Inv-loop μ-loop
 loop-less c = search needs
 
 loop-again : tie.Need-loop-again Inv-loop μ-loop
-loop-again c = (search needs, filled-put _ (c .before .before .before .loop .inv .1) (omega arith) (via (c .before .both-start .ensures) (c .if1 .taken)))
+loop-again c = let i = c .before .before .before .loop .inv in (search needs, i .1, filled-put _ (i .2) (omega arith) (via (c .before .both-start .ensures) (c .if1 .taken)))
 
 loop-less-2 : tie.Need-loop-less-2 Inv-loop μ-loop
 loop-less-2 c = search needs
 
 loop-again-2 : tie.Need-loop-again-2 Inv-loop μ-loop
-loop-again-2 c = (search needs, filled-skip _ (c .before .before .before .loop .inv .1) (omega arith) (via (c .before .both-start .ensures) (c .if1 .left)))
+loop-again-2 c = let i = c .before .before .before .loop .inv in (search needs, i .1, filled-skip _ (i .2) (omega arith) (via (c .before .both-start .ensures) (c .if1 .left)))
 
 returns : tie.Need-returns Inv-loop μ-loop
-returns c = record { shape = c .before .loop .inv .1 .shape; is = λ u v l m. c .before .loop .inv .1 .is u v l m (omega arith) }
+returns c =
+    let i = c .before .loop .inv in
+    record { shape = i .2 .shape; is = filled-all _ (i .2) (λ u v l m. rw (le-ltb u (c .before .before .args .states) (let e = i .1 in omega arith))) }
 
 pub start-square-spec : {M : Type 1} → statement M
 start-square-spec =
@@ -53,6 +61,7 @@ start-square-spec =
     (tie.spec
     Inv-loop
     μ-loop
+    mul-end
     loop-holds
     add-a
     both-start-requires
