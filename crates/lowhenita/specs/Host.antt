@@ -1,5 +1,5 @@
--- The promises of the calls from C ("What the part does": such a call returns the refusal's number or 0, and writes its results into
--- one more lent buffer of at least 64 bytes). Each says by the definitions of the library's own call what the number, every other lent
+-- The promises of the calls from C ("What the part does", on calls from C: the refusal's number or 0 is returned, and the results go to
+-- a buffer of their own, 64 bytes or more). Each says by the definitions of the library's own call what the number, every other lent
 -- buffer and the result buffer are; upon refusal all buffers stay.
 use Prim.Native.Nat.{ℕ, _+_}
 use mathlib.Core.Path.{_≡_}
