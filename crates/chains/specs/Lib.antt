@@ -1,1 +1,2 @@
+-- What the contracts of the chains cite.
 pub mod Chain

@@ -1,4 +1,5 @@
 // No public calls: the chains of a coder's entries, for the library's own crates.
+ghost use mathlib.Core.Path.{_≡_};
 ghost use Rattle.chains.specs.Chain.{Keys, Chained};
 
 // Entries are numbered from 1: entry p + 1 stands at place p of the tables. `last` has for each key the last entry with that key,
@@ -6,6 +7,13 @@ ghost use Rattle.chains.specs.Chain.{Keys, Chained};
 pub struct Chain {
     pub last: [u16; 64],
     pub previous: [u16; 256],
+}
+
+// The number of an entry, as an index.
+pub fn wide(x: u16) -> usize
+    ensures { λ r. ⌜ r ≡ x ⌝ }
+{
+    x as usize
 }
 
 // Chains the entries of a coder with the given counts by their keys.

@@ -7,16 +7,11 @@ ghost use lib.Dec.{eqb};
 ghost use Rattle.coder.specs.Refusal.{both};
 ghost use Rattle.least.specs.Need.{raised, CountAsked, CountedOne, RowAsked, RowOf, RowDone, ConflictsAsked, ConflictsDone, Needs, Chosen};
 use crate::Window;
+use chains::inner::wide;
 use coder::inner::bytes::number;
 use coder::inner::letters::conflict;
 use coder::inner::tables::Coder;
 use product::inner::Edge;
-
-fn wide(x: u16) -> usize
-    ensures { λ r. ⌜ r ≡ x ⌝ }
-{
-    x as usize
-}
 
 // Takes x in at place f of the table: the larger of the two stays.
 fn raise(worst: &mut [u8; 256], f: usize, x: u8)

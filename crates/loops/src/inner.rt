@@ -8,6 +8,7 @@ ghost use Prim.Native.Nat.{ℕ, _+_, _*_, _<_, _≤_};
 ghost use Rattle.loops.specs.Walk.{step as stepOf, after, Followable, Repeats, placeOf, WriteAsked, Wrote};
 ghost use Rattle.loops.specs.Pair.{FindFrom, FindAsked, FoundPair};
 use crate::LoopedPair;
+use chains::inner::wide;
 use coder::inner::bytes::number;
 use coder::inner::tables::Coder;
 use product::inner::Edge;
@@ -17,12 +18,6 @@ pub struct Return {
     pub steps: usize,
     pub lead: usize,
     pub pair: usize,
-}
-
-fn wide(x: u16) -> usize
-    ensures { λ r. ⌜ r ≡ x ⌝ }
-{
-    x as usize
 }
 
 // The pair after the pair a.

@@ -52,9 +52,10 @@ near-keys c s back = record {
 }
 near-keys c s forward = record { states = s .states-high; inputs = s .inputs-high; below = source-high }
 
-pub arrays-of : (c : Coder) (d : Direction) → Sound c → (chain : Chain) → Chained (nearEnds d c) (c .states) (c .inputs) chain → (far′ : List ℕ) → far′ ≡ farEnds d c
-    → ArraysOf c d (chain .last) (chain .previous) (c .output) far′
-arrays-of c d s chain h far′ e = record { sound = s; output-is = refl; far-is = e; chained = h }
+pub arrays-of :
+    (c : Coder) (d : Direction) → Sound c → (chain : Chain) (near′ far′ : List ℕ) → near′ ≡ nearEnds d c → far′ ≡ farEnds d c →
+    Chained near′ (c .states) (c .inputs) chain → ArraysOf c d (chain .last) (chain .previous) (c .output) far′
+arrays-of c d s chain near′ far′ n f h = record { sound = s; output-is = refl; far-is = f; chained = rw n at h }
 
 module _ (c : Coder) (d : Direction) (flags : List ℕ) (sound : Sound c) where
   abbrev S : Setting

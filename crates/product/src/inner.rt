@@ -14,6 +14,7 @@ ghost use Rattle.product.specs.Depth.{at};
 ghost use Rattle.product.specs.Entries.{sources, nearEnds, farEnds, ArraysOf};
 ghost use Rattle.product.specs.Rounds.{Above, Seeking, Sought, SeekAsked, RoundAsked, Before, Rounded, startFlag, Started, Kept, FirstEdges, AlongAsked, DepthsFound};
 ghost use mathlib.Core.List.{List};
+use chains::inner::wide;
 use coder::inner::bytes::number;
 use coder::inner::tables::Coder;
 
@@ -21,12 +22,6 @@ use coder::inner::tables::Coder;
 pub struct Edge {
     pub x: usize,
     pub y: usize,
-}
-
-fn wide(x: u16) -> usize
-    ensures { λ r. ⌜ r ≡ x ⌝ }
-{
-    x as usize
 }
 
 // The state of the entry at each place.

@@ -1,3 +1,4 @@
+-- `check` meets its promise: refused with the first number that applies, or whether the pair is valid.
 use mathlib.Core.Path.{refl}
 -- `check` meets its contract: the refusal, or whether the pair is valid for the file's machine.
 use mathlib.Core.Bool.{true}

@@ -1,3 +1,4 @@
+-- `show` reads within the bytes. The first i are printed.
 use Prim.Native.Nat.{_≤_, _-_}
 use lib.ListN.{length}
 use borrow.Author.Needs.{needs}

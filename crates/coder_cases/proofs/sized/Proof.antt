@@ -1,3 +1,4 @@
+-- `sized` keeps within its array.
 use mathlib.Core.Path.{sym}
 use lib.Seq.{length-take-le}
 use borrow.Author.Needs.{needs}

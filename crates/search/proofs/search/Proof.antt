@@ -1,3 +1,4 @@
+-- `search` meets its promise: refused with nothing written, or the verdict on the coder of the file, with every state a start state.
 use denote.Ref.{now}
 use mathlib.Core.Path.{refl}
 use borrow.Author.Tests.{leb-true}

@@ -1,3 +1,4 @@
+-- `checked` reads within the buffer.
 use mathlib.Core.Path.{sym}
 use lib.Seq.{length-take-le}
 use borrow.Author.Needs.{needs}

@@ -1,3 +1,4 @@
+-- `by_key` meets its contract. The entries below place p are chained.
 use mathlib.Core.Path.{refl}
 use Prim.Native.Nat.{_≤_, _-_}
 use Rattle.chains.proofs.Building.{ChainedBelow, below-none, below-skip, below-more, below-all}

@@ -1,3 +1,4 @@
+-- `choose` meets its contract. The window so far is the first of the candidates with lookahead a and above.
 use Prim.Native.Nat.{_≤_}
 use Rattle.least.proofs.Choosing.{FirstFrom, first-start, first-stays, first-changes}
 use borrow.Author.Needs.{needs}

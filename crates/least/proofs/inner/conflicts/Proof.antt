@@ -1,3 +1,4 @@
+-- `conflicts` meets its contract. The edges of the entries below place p are counted.
 use native.Mathlib.Numerals.{add-one}
 use Rattle.coder.specs.Table.{Sound}
 use Prim.Native.Nat.{_≤_, _-_}

@@ -1,3 +1,4 @@
+-- `count` meets its contract: an edge that is endless on both sides, or one more in the table.
 use Rattle.coder.proofs.Refusals.{via}
 use Rattle.least.proofs.Counting.{count-both, count-one}
 use borrow.Author.Needs.{needs}

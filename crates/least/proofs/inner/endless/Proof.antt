@@ -1,3 +1,4 @@
+-- `endless` meets its contract: both depths are 255.
 use borrow.Author.Tests.{eq-eqb, ne-eqb}
 use Rattle.least.proofs.inner.endless.Statement.{statement}
 use Rattle.least.proofs.inner.endless.Tie as tie

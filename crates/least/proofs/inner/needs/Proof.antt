@@ -1,3 +1,4 @@
+-- `needs` meets its contract. From f on every place has the most that the table has past it.
 use Prim.Native.Nat.{_≤_}
 use mathlib.Core.Path.{refl}
 use Rattle.least.proofs.Choosing.{NeedsFrom, needs-start, needs-more}

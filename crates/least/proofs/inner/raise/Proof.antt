@@ -1,3 +1,4 @@
+-- `raise` meets its contract: the larger of the two stays.
 use borrow.Author.Tests.{lt-ltb, le-ltb}
 use Rattle.least.specs.Need.{raised}
 use borrow.Author.Needs.{needs}

@@ -1,3 +1,4 @@
+-- `row` meets its contract. The entries of the chain above the one numbered y are counted.
 use mathlib.Core.Path.{_≡_}
 use Prim.Native.Nat.{_≤_}
 use Rattle.coder.specs.declared.inner.tables.Coder.{Coder}

@@ -1,3 +1,4 @@
+-- `back` meets its contract: next states are the near ends, states the far ends.
 use Rattle.mealy.specs.Product.{back}
 use mathlib.Core.Path.{refl}
 use borrow.Author.Needs.{needs}

@@ -1,3 +1,4 @@
+-- `both_start` meets its contract: the one and the other.
 use Rattle.coder.proofs.Refusals.{via}
 use borrow.Author.Needs.{needs}
 use borrow.Author.Needs.{needs}

@@ -1,3 +1,4 @@
+-- `forward` meets its contract: states are the near ends, next states the far ends.
 use Rattle.mealy.specs.Product.{forward}
 use mathlib.Core.Path.{refl}
 use borrow.Author.Needs.{needs}

@@ -1,3 +1,4 @@
+-- `round` meets its contract. The pairs at places below a have had their round, the others not.
 use Prim.Native.Nat.{ℕ, _≤_, _<_, _-_}
 use mathlib.Core.Path.{_≡_}
 use mathlib.Core.List.{List}

@@ -1,3 +1,4 @@
+-- `seek` meets its contract. No edge before the one of x and y leads to a pair that stands.
 use Prim.Native.Nat.{ℕ, _≤_, _+_, _*_}
 use Rattle.mealy.specs.Product.{Direction}
 use Rattle.coder.specs.declared.inner.tables.Coder.{Coder}

@@ -1,3 +1,4 @@
+-- `source` meets its contract. The first p places are set.
 use Prim.Native.Nat.{_≤_, _-_, _/_}
 use Rattle.coder.proofs.Fill.{Filled, filled-none, filled-more, filled-all}
 use borrow.Author.Needs.{needs}

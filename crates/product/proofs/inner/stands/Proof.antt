@@ -1,3 +1,4 @@
+-- `stands` meets its contract: equal outputs, and far ends of depth above k.
 use borrow.Author.Tests.{eq-eqb, ne-eqb}
 use borrow.Author.Needs.{needs}
 use native.Mathlib.Omega.{arith}

@@ -1,3 +1,4 @@
+-- `starts` meets its contract: a state of the coder whose flag is 1.
 use borrow.Author.Tests.{lt-ltb, le-ltb}
 use borrow.Author.Needs.{needs}
 use borrow.Author.Needs.{needs}

@@ -1,3 +1,4 @@
+-- `refusal` meets its contract: the file's refusal first, then the buffer.
 use Rattle.search.specs.Search.{searchRefusal}
 use Rattle.coder.proofs.Refusals.{refused-first, via}
 use borrow.Author.Needs.{needs}

@@ -1,3 +1,4 @@
+-- `verdict` meets its contract: a window where no conflicting edge is endless on both sides, a looped pair where one is.
 use Rattle.search.proofs.Verdicts.{output-keys, choose-asked, window-says, find-from, pair-says}
 use borrow.Author.Needs.{needs}
 use native.Mathlib.Omega.{arith}

@@ -1,3 +1,4 @@
+-- `conflict` meets its contract: the letters differ.
 use borrow.Author.Tests.{eqb-true, eqb-false, not-true, not-false}
 use Rattle.coder.proofs.inner.letters.conflict.Statement.{statement}
 use Rattle.coder.proofs.inner.letters.conflict.Tie as tie
