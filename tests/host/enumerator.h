@@ -45,24 +45,43 @@ typedef struct arguments {
     size_t result_len;
 } arguments;
 
+/* ---- enumerator_refusals.c ---- */
+
+/* 0 or the first number that applies. */
+size_t refusal_of_call(const arguments *a);
+
+/* The bytes of a table, or one more than the most where there would be more. */
+size_t table_bytes(size_t outputs, size_t letters);
+
+/* The places of the received letters that have a full window. */
+size_t full_windows(const arguments *a);
+
+/* ---- enumerator.c ---- */
+
+/* The coder of a file that is not refused, and one entry of it. */
+coder coder_of_file(const uint8_t *file);
+size_t next_state(const coder *c, size_t state, size_t input);
+size_t output_letter(const coder *c, size_t state, size_t input);
+
+/* The run from a state: writes n output letters, returns the end state. */
+size_t follow_run(const coder *c, size_t start, const uint8_t *input, size_t n, uint8_t *output);
+
+/* What an accepted call other than the search writes, into copies of its lent buffers.
+   Returns 0 where the allowance did not suffice. */
+int expected_answer(const arguments *a, uint8_t *lent, uint8_t *result);
+
+/* Field k of a result: 8 bytes, big-endian. */
+void put_field(uint8_t *result, size_t k, uint64_t value);
+uint64_t get_field(const uint8_t *result, size_t k);
+
+/* ---- enumerator_windows.c ---- */
+
 /* Three answers: the enumeration may end at its allowance before it knows. */
 enum answer { NO, YES, UNKNOWN };
 
 /* The allowance of steps for the enumerations that follow, and whether it was used up. */
 void allow_steps(long steps);
 int steps_used_up(void);
-
-/* Files and refusals: 0 or the first number that applies. */
-size_t refusal_of_file(const uint8_t *file, size_t len);
-size_t refusal_of_call(const arguments *a);
-coder coder_of_file(const uint8_t *file);
-
-/* One entry. */
-size_t next_state(const coder *c, size_t state, size_t input);
-size_t output_letter(const coder *c, size_t state, size_t input);
-
-/* The run from a state: writes n output letters, returns the end state. */
-size_t follow_run(const coder *c, size_t start, const uint8_t *input, size_t n, uint8_t *output);
 
 /* All runs of n letters grouped by output string: fails[b] becomes 1 where two runs have equal
    outputs and different letters at place b. Returns 0, with nothing said, where there are more
@@ -72,25 +91,21 @@ int fails_by_groups(const coder *c, size_t n, size_t most, uint8_t *fails);
 /* Whether the window works, by all pairs of runs around the present letter. */
 enum answer works_by_pairs(const coder *c, size_t before, size_t after);
 
-/* Whether a letter fits the received window, and the byte of a window. */
-enum answer letter_fits(const coder *c, size_t before, size_t after, const uint8_t *received,
-                        size_t letter);
+/* The byte of a received window: the letter that alone fits, none or several. */
 uint8_t window_byte(const coder *c, size_t before, size_t after, const uint8_t *received);
 
-/* Pairs, by following both runs. */
+/* ---- enumerator_pairs.c ---- */
+
 int pair_valid(const coder *c, const pair *p);
+
+/* Back loop and lead-in have together at most N * N letters, and so have lead-out and forward
+   loop. */
 int pair_keeps_bounds(const coder *c, const pair *p);
+
 /* Turned: equal outputs everywhere and different letters at the marked place. */
 int turned_pair_confuses(const coder *c, const pair *p, size_t back, size_t forward);
+
 /* Cut from the turned pair: two runs of before + 1 + after letters that the window confuses. */
 int pair_refutes_window(const coder *c, const pair *p, size_t before, size_t after);
-
-/* What an accepted call other than the search writes, into copies of its lent buffers.
-   Returns 0 where the allowance did not suffice. */
-int expected_answer(const arguments *a, uint8_t *lent, uint8_t *result);
-
-/* Field k of a result: 8 bytes, big-endian. */
-void put_field(uint8_t *result, size_t k, uint64_t value);
-uint64_t get_field(const uint8_t *result, size_t k);
 
 #endif

@@ -1,0 +1,183 @@
+/* The enumerator's refusals: the first number that applies, in the order of docs/refusals.md. */
+#include "enumerator.h"
+
+/* ---- the file ---- */
+
+static int in_range(size_t value, size_t most)
+{
+    return value >= 1 && value <= most;
+}
+
+static size_t refusal_of_file(const uint8_t *file, size_t len)
+{
+    size_t count, states, inputs, outputs, k;
+
+    if (len < 6)
+        return 1;
+    if (file[0] != 1)
+        return 2;
+    count = (size_t)file[1] * 256 + file[2];
+    if (count != len - 3)
+        return 3;
+    states = file[3];
+    inputs = file[4];
+    outputs = file[5];
+    if (!in_range(states, MOST_STATES) || !in_range(inputs, MOST_INPUTS)
+        || !in_range(outputs, MOST_OUTPUTS))
+        return 4;
+    if (count != 3 + 2 * states * inputs)
+        return 5;
+    for (k = 0; k < states * inputs; k++)
+        if (file[6 + 2 * k] >= states || file[7 + 2 * k] >= outputs)
+            return 6;
+    return 0;
+}
+
+/* ---- the calls ---- */
+
+static int some_letter_from(const uint8_t *letters, size_t n, size_t limit)
+{
+    size_t k;
+
+    for (k = 0; k < n; k++)
+        if (letters[k] >= limit)
+            return 1;
+    return 0;
+}
+
+static int sides_too_large(const arguments *a)
+{
+    return a->before > MOST_SIDE || a->after > MOST_SIDE;
+}
+
+/* Whether the bytes are twice the letters of the pair, without adding what could wrap. */
+static int pair_bytes_match(const arguments *a)
+{
+    const size_t lengths[4] = {a->pair.back_loop, a->pair.lead_in, a->pair.lead_out,
+                               a->pair.forward_loop};
+    size_t rest, k;
+
+    if (a->bytes_len % 2 != 0 || a->bytes_len == 0)
+        return 0;
+    rest = a->bytes_len / 2 - 1;
+    for (k = 0; k < 4; k++) {
+        if (lengths[k] > rest)
+            return 0;
+        rest -= lengths[k];
+    }
+    return rest == 0;
+}
+
+size_t table_bytes(size_t outputs, size_t letters)
+{
+    size_t bytes = 1;
+
+    if (outputs == 1)
+        return 1;
+    for (; letters > 0; letters--) {
+        bytes *= outputs;
+        if (bytes > MOST_TABLE)
+            return MOST_TABLE + 1;
+    }
+    return bytes;
+}
+
+size_t full_windows(const arguments *a)
+{
+    if (a->bytes_len < a->before + 1 + a->after)
+        return 0;
+    return a->bytes_len - a->before - a->after;
+}
+
+static size_t refusal_of_run(const arguments *a, const coder *c)
+{
+    if (a->start >= c->states)
+        return 7;
+    if (a->lent_len < a->bytes_len || a->result_len < RESULT_BYTES)
+        return 11;
+    if (some_letter_from(a->bytes, a->bytes_len, c->inputs))
+        return 12;
+    return 0;
+}
+
+static size_t refusal_of_search(const arguments *a)
+{
+    if (a->lent_len < SEARCH_BYTES || a->result_len < RESULT_BYTES)
+        return 11;
+    return 0;
+}
+
+static size_t refusal_of_decode(const arguments *a, const coder *c)
+{
+    if (sides_too_large(a))
+        return 8;
+    if (a->lent_len < full_windows(a) || a->result_len < RESULT_BYTES)
+        return 11;
+    if (some_letter_from(a->bytes, a->bytes_len, c->outputs))
+        return 13;
+    return 0;
+}
+
+static size_t refusal_of_check(const arguments *a, const coder *c)
+{
+    if (a->pair.s >= c->states || a->pair.t >= c->states)
+        return 7;
+    if (!pair_bytes_match(a))
+        return 9;
+    if (a->result_len < RESULT_BYTES)
+        return 11;
+    if (some_letter_from(a->bytes, a->bytes_len, c->inputs))
+        return 12;
+    return 0;
+}
+
+static size_t refusal_of_window(const arguments *a, const coder *c)
+{
+    if (sides_too_large(a))
+        return 8;
+    if (a->bytes_len != a->before + 1 + a->after)
+        return 9;
+    if (a->result_len < RESULT_BYTES)
+        return 11;
+    if (some_letter_from(a->bytes, a->bytes_len, c->outputs))
+        return 13;
+    return 0;
+}
+
+static size_t refusal_of_table(const arguments *a, const coder *c)
+{
+    size_t bytes;
+
+    if (sides_too_large(a))
+        return 8;
+    bytes = table_bytes(c->outputs, a->before + 1 + a->after);
+    if (bytes > MOST_TABLE)
+        return 10;
+    if (a->lent_len < bytes || a->result_len < RESULT_BYTES)
+        return 11;
+    return 0;
+}
+
+size_t refusal_of_call(const arguments *a)
+{
+    size_t number = refusal_of_file(a->file, a->file_len);
+    coder c;
+
+    if (number != 0)
+        return number;
+    c = coder_of_file(a->file);
+    switch (a->call) {
+    case CALL_RUN:
+        return refusal_of_run(a, &c);
+    case CALL_SEARCH:
+        return refusal_of_search(a);
+    case CALL_DECODE:
+        return refusal_of_decode(a, &c);
+    case CALL_CHECK:
+        return refusal_of_check(a, &c);
+    case CALL_WINDOW:
+        return refusal_of_window(a, &c);
+    default:
+        return refusal_of_table(a, &c);
+    }
+}

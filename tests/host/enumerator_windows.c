@@ -1,0 +1,269 @@
+/* The enumerator's windows: which windows work, judged in two ways, by all runs grouped by output
+   string and by all pairs of runs; and what a received window decodes to. */
+#include "enumerator.h"
+
+#include <string.h>
+
+/* ---- the allowance ---- */
+
+static long steps_left;
+
+void allow_steps(long steps)
+{
+    steps_left = steps;
+}
+
+int steps_used_up(void)
+{
+    return steps_left <= 0;
+}
+
+static int take_step(void)
+{
+    if (steps_left <= 0)
+        return 0;
+    steps_left--;
+    return 1;
+}
+
+/* ---- all runs, grouped by output string ---- */
+
+enum { MOST_WORDS = 1 << 17 };
+
+/* n-th power, or 0 above the limit. */
+static size_t limited_power(size_t base, size_t n, size_t limit)
+{
+    size_t power = 1;
+
+    for (; n > 0; n--) {
+        power *= base;
+        if (power > limit)
+            return 0;
+    }
+    return power;
+}
+
+/* Run number r of n letters: its letters, and its output string as a number to base O. */
+static size_t numbered_run(const coder *c, size_t r, size_t n, uint8_t *letters)
+{
+    size_t state = r % c->states, word = 0, k;
+
+    r /= c->states;
+    for (k = 0; k < n; k++) {
+        letters[k] = (uint8_t)(r % c->inputs);
+        r /= c->inputs;
+        word = word * c->outputs + output_letter(c, state, letters[k]);
+        state = next_state(c, state, letters[k]);
+    }
+    return word;
+}
+
+/* Marks the places where two runs of one group differ; returns how many places are newly marked. */
+static size_t mark_differences(const uint8_t *one, const uint8_t *other, size_t n, uint8_t *fails)
+{
+    size_t fresh = 0, k;
+
+    for (k = 0; k < n; k++)
+        if (one[k] != other[k] && !fails[k]) {
+            fails[k] = 1;
+            fresh++;
+        }
+    return fresh;
+}
+
+/* Each run is compared with the first of its group: if two runs of a group differ at a place, one
+   of them differs there from the first. The runs are taken in scattered order (the step is prime
+   and above 16, so every run comes once), which shows differences early; the rest is left out once
+   every place is marked. */
+int fails_by_groups(const coder *c, size_t n, size_t most, uint8_t *fails)
+{
+    static uint32_t first[MOST_WORDS];
+    const size_t step = 1000003;
+    size_t inputs = limited_power(c->inputs, n, most);
+    size_t words = limited_power(c->outputs, n, MOST_WORDS);
+    size_t runs = inputs * c->states, marked = 0, r = 0, k;
+    uint8_t letters[64], earlier[64];
+
+    memset(fails, 0, n);
+    if (n > sizeof letters || inputs == 0 || words == 0 || runs > most)
+        return 0;
+    memset(first, 0, words * sizeof *first);
+    for (k = 0; k < runs && marked < n; k++) {
+        size_t word = numbered_run(c, r, n, letters);
+
+        if (first[word] == 0) {
+            first[word] = (uint32_t)(r + 1);
+        } else {
+            numbered_run(c, first[word] - 1, n, earlier);
+            marked += mark_differences(letters, earlier, n, fails);
+        }
+        r = (r + step) % runs;
+    }
+    return 1;
+}
+
+/* ---- all pairs of runs ---- */
+
+/* The pairs of states already tried at one step: other letters to the same two states give nothing
+   new there. */
+typedef struct tried {
+    uint16_t second[MOST_STATES];
+} tried;
+
+static int first_time(tried *d, size_t s, size_t t)
+{
+    if (d->second[s] >> t & 1)
+        return 0;
+    d->second[s] |= (uint16_t)(1u << t);
+    return 1;
+}
+
+/* Whether two runs of n letters from these states have equal outputs. */
+static int runs_go_on(const coder *c, size_t s, size_t t, size_t n)
+{
+    tried done = {{0}};
+    size_t i, j;
+
+    if (n == 0)
+        return 1;
+    if (!take_step())
+        return 0;
+    for (i = 0; i < c->inputs; i++)
+        for (j = 0; j < c->inputs; j++)
+            if (output_letter(c, s, i) == output_letter(c, t, j)
+                && first_time(&done, next_state(c, s, i), next_state(c, t, j))
+                && runs_go_on(c, next_state(c, s, i), next_state(c, t, j), n - 1))
+                return 1;
+    return 0;
+}
+
+/* The entries that lead into each state. */
+typedef struct entering {
+    size_t count[MOST_STATES];
+    uint8_t from[MOST_STATES][MOST_STATES * MOST_INPUTS];
+    uint8_t output[MOST_STATES][MOST_STATES * MOST_INPUTS];
+} entering;
+
+static void list_entering(const coder *c, entering *e)
+{
+    size_t s, i;
+
+    memset(e->count, 0, sizeof e->count);
+    for (s = 0; s < c->states; s++)
+        for (i = 0; i < c->inputs; i++) {
+            size_t to = next_state(c, s, i), k = e->count[to]++;
+
+            e->from[to][k] = (uint8_t)s;
+            e->output[to][k] = (uint8_t)output_letter(c, s, i);
+        }
+}
+
+/* Whether two runs of n letters into these states have equal outputs. */
+static int runs_come_in(const entering *e, size_t s, size_t t, size_t n)
+{
+    tried done = {{0}};
+    size_t i, j;
+
+    if (n == 0)
+        return 1;
+    if (!take_step())
+        return 0;
+    for (i = 0; i < e->count[s]; i++)
+        for (j = 0; j < e->count[t]; j++)
+            if (e->output[s][i] == e->output[t][j]
+                && first_time(&done, e->from[s][i], e->from[t][j])
+                && runs_come_in(e, e->from[s][i], e->from[t][j], n - 1))
+                return 1;
+    return 0;
+}
+
+/* Whether two runs have equal outputs that read these letters in these states at the present
+   place. */
+static int runs_around(const coder *c, const entering *e, size_t before, size_t after,
+                       const size_t from[2], const size_t by[2])
+{
+    return output_letter(c, from[0], by[0]) == output_letter(c, from[1], by[1])
+        && runs_go_on(c, next_state(c, from[0], by[0]), next_state(c, from[1], by[1]), after)
+        && runs_come_in(e, from[0], from[1], before);
+}
+
+/* Every pair of runs is a pair of runs into the present place, two letters there and a pair of runs
+   out of it; pairs are given up where their outputs differ. Which run is called first does not
+   matter, so the first has the smaller letter. */
+enum answer works_by_pairs(const coder *c, size_t before, size_t after)
+{
+    static entering e;
+    size_t from[2], by[2];
+
+    list_entering(c, &e);
+    for (from[0] = 0; from[0] < c->states; from[0]++)
+        for (from[1] = 0; from[1] < c->states; from[1]++)
+            for (by[1] = 1; by[1] < c->inputs; by[1]++)
+                for (by[0] = 0; by[0] < by[1]; by[0]++) {
+                    if (runs_around(c, &e, before, after, from, by))
+                        return NO;
+                    if (steps_used_up())
+                        return UNKNOWN;
+                }
+    return YES;
+}
+
+/* ---- decoding ---- */
+
+typedef struct request {
+    const coder *c;
+    const uint8_t *received;
+    size_t letters, marked, letter;
+} request;
+
+/* Whether a run from this state has the rest of the outputs and the letter at the marked place. */
+static int run_matches(const request *q, size_t state, size_t place)
+{
+    tried done = {{0}};
+    size_t i;
+
+    if (place == q->letters)
+        return 1;
+    if (!take_step())
+        return 0;
+    for (i = 0; i < q->c->inputs; i++) {
+        if (place == q->marked && i != q->letter)
+            continue;
+        if (output_letter(q->c, state, i) == q->received[place]
+            && first_time(&done, next_state(q->c, state, i), 0)
+            && run_matches(q, next_state(q->c, state, i), place + 1))
+            return 1;
+    }
+    return 0;
+}
+
+static enum answer letter_fits(const coder *c, size_t before, size_t after, const uint8_t *received,
+                               size_t letter)
+{
+    request q;
+    size_t s;
+
+    q.c = c;
+    q.received = received;
+    q.letters = before + 1 + after;
+    q.marked = before;
+    q.letter = letter;
+    for (s = 0; s < c->states; s++)
+        if (run_matches(&q, s, 0))
+            return YES;
+    return steps_used_up() ? UNKNOWN : NO;
+}
+
+uint8_t window_byte(const coder *c, size_t before, size_t after, const uint8_t *received)
+{
+    size_t fitting = 0, found = 0, x;
+
+    for (x = 0; x < c->inputs; x++)
+        if (letter_fits(c, before, after, received, x) == YES) {
+            fitting++;
+            found = x;
+        }
+    if (fitting == 0)
+        return 254;
+    return fitting == 1 ? (uint8_t)found : 255;
+}
