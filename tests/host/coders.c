@@ -204,7 +204,6 @@ static int is_free(const coder_file *f, size_t state, size_t input)
     return f->bytes[6 + 2 * (state * f->bytes[4] + input)] == NO_ENTRY;
 }
 
-
 /* Fills the free entries of a state with one output, to states 0, apart, 2 apart and so on. */
 static void pad_with_own_output(coder_file *f, size_t state, size_t output, size_t apart)
 {

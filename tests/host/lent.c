@@ -25,7 +25,8 @@ void lent_open(lent *b)
 {
     size_t page = (size_t)sysconf(_SC_PAGESIZE);
     size_t room = (LENT_ROOM + LENT_GUARD + page - 1) / page * page;
-    uint8_t *map = mmap(NULL, room + page, PROT_READ | PROT_WRITE, MAP_PRIVATE | MAP_ANONYMOUS, -1, 0);
+    uint8_t *map = mmap(NULL, room + page, PROT_READ | PROT_WRITE, MAP_PRIVATE | MAP_ANONYMOUS,
+                        -1, 0);
 
     if (map == MAP_FAILED || mprotect(map + room, page, PROT_NONE) != 0) {
         fprintf(stderr, "no memory for the guarded buffers\n");

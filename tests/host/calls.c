@@ -1,0 +1,185 @@
+/* The comparisons made on one coder: its search, a round trip, calls with random arguments, and
+   calls with all arguments of small size. */
+#include "calls.h"
+
+#include <string.h>
+
+/* ---- the search, and what it leads to ---- */
+
+void search(const coder_file *f)
+{
+    arguments a = plain(CALL_SEARCH, f);
+
+    forget_verdict();
+    a.lent_len = SEARCH_BYTES + random_below(4);
+    a.result_len += random_below(4);
+    now.coders++;
+    compare(&a);
+}
+
+void known_search(const coder_file *f, int is_pair, size_t before, size_t after)
+{
+    search(f);
+    known_value("whether there is no decoder", (size_t)found->is_pair, (size_t)is_pair);
+    if (is_pair)
+        return;
+    known_value("the window's before", found->before, before);
+    known_value("the window's after", found->after, after);
+}
+
+void compare_random(enum call call, const coder_file *f)
+{
+    arguments a = random_arguments(call, f);
+
+    compare(&a);
+}
+
+void compare_some_of_each(const coder_file *f)
+{
+    compare_random(CALL_RUN, f);
+    compare_random(CALL_DECODE, f);
+    compare_random(CALL_CHECK, f);
+    compare_random(CALL_CHECK, f);
+    compare_random(CALL_WINDOW, f);
+    compare_random(CALL_WINDOW, f);
+    compare_random(CALL_TABLE, f);
+}
+
+void round_trip(const coder_file *f)
+{
+    static uint8_t input[1024];
+    coder c = coder_of_file(f->bytes);
+    arguments a = plain(CALL_DECODE, f);
+    size_t n;
+
+    if (!found->known || found->is_pair)
+        return;
+    a.before = found->before;
+    a.after = found->after;
+    n = a.before + a.after + random_below(200);
+    random_letters(n, c.inputs);
+    memcpy(input, letters_room, n);
+    follow_run(&c, random_below(c.states), input, n, letters_room);
+    a.bytes_len = n;
+    a.lent_len = n - a.before - a.after;
+    compare_known(&a, input + a.before, a.lent_len);
+}
+
+void compare_both_ways(const coder_file *f, size_t most)
+{
+    coder c = coder_of_file(f->bytes);
+    uint8_t fails[MOST_WINDOW];
+    size_t n, b;
+
+    for (n = 1; n <= most; n++)
+        if (fails_by_groups(&c, n, MOST_RUNS, fails))
+            for (b = 0; b < n; b++) {
+                enum answer works;
+
+                allow_steps(ANSWER_STEPS);
+                works = works_by_pairs(&c, b, n - 1 - b);
+                known_value("whether a window works, by pairs", works, fails[b] ? NO : YES);
+            }
+}
+
+/* ---- all arguments of small size ---- */
+
+/* The number to base `base` with n digits, lowest first. */
+static void put_digits(uint8_t *bytes, size_t n, size_t base, size_t number)
+{
+    size_t k;
+
+    for (k = 0; k < n; k++, number /= base)
+        bytes[k] = (uint8_t)(number % base);
+}
+
+void all_runs(const coder_file *f, size_t most)
+{
+    coder c = coder_of_file(f->bytes);
+    arguments a = plain(CALL_RUN, f);
+    size_t n, k;
+
+    for (a.start = 0; a.start < c.states; a.start++)
+        for (n = 0; n <= most; n++)
+            for (k = 0; k < power(c.inputs, n); k++) {
+                put_digits(letters_room, n, c.inputs, k);
+                a.bytes_len = n;
+                a.lent_len = n + k % 2;
+                compare(&a);
+            }
+}
+
+void all_windows(const coder_file *f, size_t most)
+{
+    coder c = coder_of_file(f->bytes);
+    arguments a = plain(CALL_WINDOW, f);
+    size_t n, k;
+
+    for (n = 1; n <= most; n++)
+        for (a.before = 0; a.before < n; a.before++) {
+            a.after = n - 1 - a.before;
+            a.bytes_len = n;
+            for (k = 0; k < power(c.outputs, n); k++) {
+                put_digits(letters_room, n, c.outputs, k);
+                compare(&a);
+            }
+        }
+}
+
+void all_strings(const coder_file *f, size_t window, size_t most)
+{
+    coder c = coder_of_file(f->bytes);
+    arguments a = plain(CALL_DECODE, f);
+    size_t n, k;
+
+    for (a.before = 0; a.before < window; a.before++)
+        for (a.after = 0; a.before + a.after < window; a.after++)
+            for (n = 0; n <= most; n++)
+                for (k = 0; k < power(c.outputs, n); k++) {
+                    put_digits(letters_room, n, c.outputs, k);
+                    a.bytes_len = n;
+                    a.lent_len = n > a.before + a.after ? n - a.before - a.after : 0;
+                    compare(&a);
+                }
+}
+
+void all_tables(const coder_file *f, size_t most)
+{
+    coder c = coder_of_file(f->bytes);
+    arguments a = plain(CALL_TABLE, f);
+
+    for (a.before = 0; a.before < most; a.before++)
+        for (a.after = 0; a.before + a.after < most; a.after++) {
+            a.lent_len = power(c.outputs, a.before + 1 + a.after) + a.before % 2;
+            compare(&a);
+        }
+}
+
+static void all_letters_of_pair(arguments *a, const coder *c)
+{
+    size_t letters = a->pair.back_loop + a->pair.lead_in + 1 + a->pair.lead_out
+        + a->pair.forward_loop, k;
+
+    a->bytes_len = 2 * letters;
+    for (k = 0; k < power(c->inputs, 2 * letters); k++) {
+        put_digits(letters_room, 2 * letters, c->inputs, k);
+        compare(a);
+    }
+}
+
+void all_pairs(const coder_file *f, size_t most)
+{
+    coder c = coder_of_file(f->bytes);
+    arguments a = plain(CALL_CHECK, f);
+    pair *p = &a.pair;
+
+    for (p->s = 0; p->s < c.states; p->s++)
+        for (p->t = 0; p->t < c.states; p->t++)
+            for (p->back_loop = 0; p->back_loop < most; p->back_loop++)
+                for (p->lead_in = 0; p->back_loop + p->lead_in < most; p->lead_in++)
+                    for (p->lead_out = 0; p->back_loop + p->lead_in + p->lead_out < most;
+                         p->lead_out++)
+                        for (p->forward_loop = 0; p->back_loop + p->lead_in + p->lead_out
+                                 + p->forward_loop < most; p->forward_loop++)
+                            all_letters_of_pair(&a, &c);
+}

@@ -1,0 +1,46 @@
+/* Arguments of the calls, and the comparisons made on one coder with them. */
+#ifndef CALLS_H
+#define CALLS_H
+
+#include "coders.h"
+#include "compare.h"
+#include "lent.h"
+
+/* ---- arguments.c ---- */
+
+/* The letters of all arguments made here. */
+extern uint8_t letters_room[LENT_ROOM];
+
+/* Arguments with this coder, no letters and the least result; all else 0. */
+arguments plain(enum call call, const coder_file *f);
+
+void random_letters(size_t n, size_t limit);
+size_t power(size_t base, size_t n);
+
+/* Random arguments, accepted for this coder unless the latest verdict is another coder's: the pairs
+   to check come from it, some of them with small changes. */
+arguments random_arguments(enum call call, const coder_file *f);
+
+/* ---- calls.c ---- */
+
+void search(const coder_file *f);
+void known_search(const coder_file *f, int is_pair, size_t before, size_t after);
+
+/* A run decoded with the window found gives its own letters back; the enumerator is not asked. */
+void round_trip(const coder_file *f);
+
+/* The enumerator's two ways to try a window agree, for windows of at most so many letters. */
+void compare_both_ways(const coder_file *f, size_t most);
+
+void compare_random(enum call call, const coder_file *f);
+void compare_some_of_each(const coder_file *f);
+
+/* All inputs, received windows, received strings (of at most `most` letters, for windows of at most
+   `window`), tables and pairs with at most so many letters. */
+void all_runs(const coder_file *f, size_t most);
+void all_windows(const coder_file *f, size_t most);
+void all_strings(const coder_file *f, size_t window, size_t most);
+void all_tables(const coder_file *f, size_t most);
+void all_pairs(const coder_file *f, size_t most);
+
+#endif

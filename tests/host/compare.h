@@ -1,0 +1,90 @@
+/* What the groups of comparisons share: their counts and differences, one comparison of a call with
+   the enumerator, and the verdict of the latest search. */
+#ifndef COMPARE_H
+#define COMPARE_H
+
+#include "enumerator.h"
+
+enum {
+    NUMBERS = 14,          /* what a call returns: 0 and the refusals 1 to 13 */
+    MOST_RUNS = 30000,     /* runs grouped by output string for one length of window */
+    PAIR_STEPS = 20000,    /* steps for one window by pairs of runs */
+    ANSWER_STEPS = 400000  /* steps for one expected answer */
+};
+
+/* ---- counts.c ---- */
+
+typedef struct counts {
+    unsigned long coders, comparisons;
+    unsigned long decoders, longest_window, pairs, longest_pair;
+    unsigned long windows, windows_left, refuted, answers_left;
+    unsigned long wanted[CALLS][NUMBERS];
+} counts;
+
+/* The counts of the group under way. */
+extern counts now;
+
+void begin_group(const char *name);
+
+/* Prints the group's line. */
+void end_group(void);
+
+/* Prints the last line; the program's status. */
+int end_groups(void);
+
+/* The call that a difference is shown with from now on, until the group ends; NULL for none. */
+void show_call(const arguments *a);
+
+/* A difference, printed in detail if it is one of the group's first. */
+void differ(const char *what, ...);
+
+/* A comparison with a value known beforehand. */
+void known_value(const char *what, size_t got, size_t wanted);
+
+/* A library that reads or writes past a buffer, or ends the program, is a difference too. */
+void catch_signals(void);
+
+const char *call_name(enum call call);
+void print_bytes(const char *name, const uint8_t *bytes, size_t len);
+
+/* ---- compare.c ---- */
+
+/* What the library returned, and its two buffers as they are until the next comparison. */
+typedef struct reply {
+    size_t returned;
+    const uint8_t *lent, *result;
+} reply;
+
+void open_buffers(void);
+
+/* A call held against the enumerator; left out, and no value known equals the reply, where the
+   enumeration is too long. */
+reply compare(const arguments *a);
+
+/* A call whose answer is known without the enumerator: it writes these bytes to the front of the
+   lent buffer, and their count in field 0. */
+void compare_known(const arguments *a, const uint8_t *bytes, size_t count);
+
+/* ---- verdict.c ---- */
+
+typedef struct verdict {
+    int known, is_pair;
+    size_t before, after;
+    pair pair;
+    size_t letters;
+    uint8_t bytes[SEARCH_BYTES];
+} verdict;
+
+/* The verdict of the latest search. */
+extern const verdict *const found;
+void forget_verdict(void);
+
+/* What is tried besides the verdict itself: the smaller windows where there is one; where there is
+   none, all windows up to the bound, and the same by following the pair. */
+void try_verdicts(int smaller, int all, int refute);
+
+/* Judges the verdict and puts what it may write into the wanted buffers. */
+void judge_search(const arguments *a, const uint8_t *lent, const uint8_t *result,
+                  uint8_t *wanted_lent, uint8_t *wanted_result);
+
+#endif

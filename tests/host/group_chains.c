@@ -1,0 +1,99 @@
+/* Chains: coders with long windows or long loops, whose windows and loops are known; and chains
+   with some entries changed. */
+#include "calls.h"
+#include "groups.h"
+
+/* What is known of a chain besides its verdict being judged. */
+static void chain_window(const coder_file *f, size_t before, size_t after)
+{
+    known_search(f, 0, before, after);
+    round_trip(f);
+    compare_some_of_each(f);
+}
+
+static void chain_loop(const coder_file *f, size_t back, size_t forward)
+{
+    known_search(f, 1, 0, 0);
+    if (found->known && back)
+        known_value("the back loop modulo the chain", found->pair.back_loop % back, 0);
+    if (found->known && forward)
+        known_value("the forward loop modulo the chain", found->pair.forward_loop % forward, 0);
+    compare_some_of_each(f);
+}
+
+static void windows_of_chains(size_t states, size_t turns)
+{
+    coder_file f;
+    size_t pairs = chain_pairs(states, turns);
+
+    make_forward_chain(&f, states, turns);
+    chain_window(&f, 0, pairs);
+    make_backward_chain(&f, states, turns);
+    chain_window(&f, pairs, 0);
+    if (turns + 3 <= states) {
+        make_split_chain(&f, states, turns);
+        chain_window(&f, pairs, states * (states - 1) / 2 - pairs);
+    }
+}
+
+static void loops_of_chains(size_t states, size_t turns)
+{
+    coder_file f;
+    size_t loop = 2 * chain_pairs(states, turns);
+
+    make_closed_back(&f, states, turns);
+    chain_loop(&f, loop, 0);
+    make_closed_both(&f, states, turns);
+    chain_loop(&f, loop, loop);
+    if (turns + 3 <= states) {
+        make_closed_forward(&f, states, turns);
+        chain_loop(&f, 0, loop);
+    }
+}
+
+void group_chains(void)
+{
+    size_t n, turns;
+
+    begin_group("chains with long windows and loops, N up to 16");
+    for (n = 2; n <= 16; n++)
+        for (turns = 0; turns + 2 <= n; turns++) {
+            try_verdicts(n <= 8 || (n == 16 && turns % 7 == 0), n <= 6, n <= 8 || n == 16);
+            windows_of_chains(n, turns);
+            loops_of_chains(n, turns);
+        }
+    end_group();
+}
+
+void group_changed_chains(void)
+{
+    coder_file f;
+    size_t k, n, turns;
+
+    begin_group("chains with some entries changed");
+    for (k = 0; k < 1500; k++) {
+        n = 3 + random_below(k % 10 == 0 ? 14 : 6);
+        turns = random_below(n - 1);
+        try_verdicts(n <= 8, n <= 6, n <= 8);
+        switch (k % 4) {
+        case 0:
+            make_forward_chain(&f, n, turns);
+            break;
+        case 1:
+            make_backward_chain(&f, n, turns);
+            break;
+        case 2:
+            make_split_chain(&f, n, random_below(n - 2));
+            break;
+        default:
+            make_closed_both(&f, n, turns);
+        }
+        do
+            change_entry(&f);
+        while (random_below(2));
+        search(&f);
+        round_trip(&f);
+        compare_some_of_each(&f);
+    }
+    end_group();
+}

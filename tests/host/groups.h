@@ -1,0 +1,18 @@
+/* The groups of comparisons, each with one line. */
+#ifndef GROUPS_H
+#define GROUPS_H
+
+#include "enumerator.h"
+
+void group_examples(void);
+void group_edges(void);
+void group_tiny(void);
+void group_three_states(void);
+void group_random(void);
+void group_random_large(void);
+void group_chains(void);
+void group_changed_chains(void);
+void group_arguments(enum call call, const char *name, size_t count);
+void group_damaged(const char *name, size_t faults, size_t count);
+
+#endif

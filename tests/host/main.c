@@ -1,0 +1,38 @@
+/* The comparison of the library with the enumerator: all six calls, every byte of every buffer.
+   One line for each group of comparisons; the last line counts the groups.
+
+   verdict.c says how the verdict of a search is judged, and what can be tried besides. All of that
+   is tried for the examples, all small coders and the small random ones; for the large random
+   coders the smaller windows, and the cut pair of every 40th; for the chains, as much as their
+   number of states allows; for the other groups nothing. */
+#include "coders.h"
+#include "compare.h"
+#include "groups.h"
+
+#include <stdio.h>
+
+enum { SEED = 20250917 };
+
+int main(void)
+{
+    catch_signals();
+    open_buffers();
+    random_seed(SEED);
+    printf("seed %d\n", SEED);
+    group_examples();
+    group_edges();
+    group_tiny();
+    group_three_states();
+    group_random();
+    group_random_large();
+    group_chains();
+    group_changed_chains();
+    group_arguments(CALL_RUN, "runs with random arguments", 20000);
+    group_arguments(CALL_DECODE, "strings with random arguments", 20000);
+    group_arguments(CALL_WINDOW, "single windows with random arguments", 20000);
+    group_arguments(CALL_TABLE, "tables with random arguments", 5000);
+    group_damaged("damaged arguments, one fault", 1, 150000);
+    group_damaged("damaged arguments, two faults", 2, 150000);
+    group_damaged("damaged arguments, three faults", 3, 50000);
+    return end_groups();
+}

@@ -1,0 +1,191 @@
+/* The verdict of a search, judged.
+
+   A window that the search gives is tried. Where the search says "no decoder", its pair is
+   followed, turned 0 to 3 times either way. What is tried besides is set for each group
+   (try_verdicts): every window with fewer letters, or as many and less lookahead; or every window
+   up to N (N + 1) / 2 a side; or the pair cut to two runs of the length of each of these windows. A
+   window is tried by all runs of its length, grouped by output string, as long as there are at most
+   MOST_RUNS of them; beyond that by all pairs of runs around its present letter, with PAIR_STEPS
+   steps at most. Windows for which that does not suffice are counted as left out, and do not fail a
+   group. That a larger window works where a smaller one does is used nowhere. */
+#include "compare.h"
+
+#include <string.h>
+
+static verdict latest;
+const verdict *const found = &latest;
+
+static struct {
+    int smaller, all, refute;
+} trying;
+
+void forget_verdict(void)
+{
+    latest.known = 0;
+}
+
+void try_verdicts(int smaller, int all, int refute)
+{
+    trying.smaller = smaller;
+    trying.all = all;
+    trying.refute = refute;
+}
+
+static size_t side_bound(const coder *c)
+{
+    return c->states * (c->states + 1) / 2;
+}
+
+/* The windows of one length: fails[b] is YES where before = b fails. */
+static void try_windows(const coder *c, size_t letters, size_t low, size_t high,
+                        enum answer *fails)
+{
+    uint8_t marks[MOST_WINDOW];
+    int grouped = fails_by_groups(c, letters, MOST_RUNS, marks);
+    size_t b;
+
+    for (b = low; b <= high; b++) {
+        if (grouped) {
+            fails[b] = marks[b] ? YES : NO;
+        } else {
+            enum answer works;
+
+            allow_steps(PAIR_STEPS);
+            works = works_by_pairs(c, b, letters - 1 - b);
+            fails[b] = works == UNKNOWN ? UNKNOWN : works == YES ? NO : YES;
+        }
+        if (fails[b] == UNKNOWN)
+            now.windows_left++;
+        else
+            now.windows++;
+    }
+}
+
+/* The window works, and none with fewer letters or as many and less lookahead. */
+static void judge_window(const coder *c)
+{
+    enum answer fails[MOST_WINDOW];
+    size_t total = latest.before + 1 + latest.after, n, b;
+
+    now.decoders++;
+    if (latest.before > side_bound(c) || latest.after > side_bound(c)) {
+        differ("window %zu %zu passes the bound", latest.before, latest.after);
+        latest.known = 0;
+        return;
+    }
+    if (total > now.longest_window)
+        now.longest_window = total;
+    for (n = trying.smaller ? 1 : total; n <= total; n++) {
+        size_t low = n < total ? 0 : latest.before;
+
+        try_windows(c, n, low, n - 1, fails);
+        for (b = low; b < n; b++)
+            if (n == total && b == latest.before) {
+                if (fails[b] == YES)
+                    differ("window %zu %zu does not work", latest.before, latest.after);
+            } else if (fails[b] == NO) {
+                differ("window %zu %zu found, but %zu %zu works", latest.before, latest.after, b,
+                       n - 1 - b);
+            }
+    }
+}
+
+/* Every window up to the bound a side: none works. */
+static void try_all_windows(const coder *c)
+{
+    enum answer fails[MOST_WINDOW];
+    size_t side = side_bound(c), n, b;
+
+    for (n = 1; n <= 2 * side + 1; n++) {
+        size_t low = n - 1 > side ? n - 1 - side : 0, high = n - 1 < side ? n - 1 : side;
+
+        try_windows(c, n, low, high, fails);
+        for (b = low; b <= high; b++)
+            if (fails[b] == NO)
+                differ("no decoder found, but window %zu %zu works", b, n - 1 - b);
+    }
+}
+
+static void refute_all_windows(const coder *c)
+{
+    size_t side = side_bound(c), b, a;
+
+    for (b = 0; b <= side; b++)
+        for (a = 0; a <= side; a++, now.refuted++)
+            if (!pair_refutes_window(c, &latest.pair, b, a))
+                differ("the pair does not refute window %zu %zu", b, a);
+}
+
+static void judge_pair(const coder *c)
+{
+    size_t k, m;
+
+    now.pairs++;
+    if (latest.letters > now.longest_pair)
+        now.longest_pair = latest.letters;
+    for (k = 0; k < 2 * latest.letters; k++)
+        if (latest.bytes[k] >= c->inputs) {
+            differ("letter %u of the pair is no input letter", latest.bytes[k]);
+            return;
+        }
+    if (!pair_valid(c, &latest.pair)) {
+        differ("the pair found is not valid");
+        print_bytes("pair", latest.bytes, 2 * latest.letters);
+        return;
+    }
+    for (k = 0; k < 4; k++)
+        for (m = 0; m < 4; m++)
+            if (!turned_pair_confuses(c, &latest.pair, k, m))
+                differ("the pair turned %zu %zu times fails", k, m);
+    if (trying.refute)
+        refute_all_windows(c);
+    if (trying.all)
+        try_all_windows(c);
+}
+
+/* Reads the fields of a pair; 0 where they break the bounds. */
+static int read_pair(const coder *c, const uint8_t *result, const uint8_t *lent)
+{
+    pair *p = &latest.pair;
+
+    p->s = get_field(result, 1);
+    p->t = get_field(result, 2);
+    p->back_loop = get_field(result, 3);
+    p->lead_in = get_field(result, 4);
+    p->lead_out = get_field(result, 5);
+    p->forward_loop = get_field(result, 6);
+    p->letters = latest.bytes;
+    if (p->s >= c->states || p->t >= c->states || !pair_keeps_bounds(c, p))
+        return 0;
+    latest.letters = p->back_loop + p->lead_in + 1 + p->lead_out + p->forward_loop;
+    memcpy(latest.bytes, lent, 2 * latest.letters);
+    return 1;
+}
+
+void judge_search(const arguments *a, const uint8_t *lent, const uint8_t *result,
+                  uint8_t *wanted_lent, uint8_t *wanted_result)
+{
+    coder c = coder_of_file(a->file);
+    uint64_t kind = get_field(result, 0);
+
+    memset(&latest, 0, sizeof latest);
+    if (kind == 0) {
+        latest.known = 1;
+        latest.before = get_field(result, 1);
+        latest.after = get_field(result, 2);
+        memcpy(wanted_result, result, 3 * 8);
+        judge_window(&c);
+    } else if (kind == 1) {
+        latest.is_pair = 1;
+        if (!read_pair(&c, result, lent)) {
+            differ("the pair found breaks its bounds");
+            return;
+        }
+        latest.known = 1;
+        memcpy(wanted_result, result, 7 * 8);
+        memcpy(wanted_lent, latest.bytes, 2 * latest.letters);
+        judge_pair(&c);
+    } else {
+        differ("verdict of kind %llu", (unsigned long long)kind);
+    }
+}
