@@ -57,8 +57,8 @@ typedef struct reply {
 
 void open_buffers(void);
 
-/* A call held against the enumerator; left out, and no value known equals the reply, where the
-   enumeration is too long. */
+/* A call held against the enumerator. Where the enumeration is too long the call is left out; the
+   reply is then one that no call gives. */
 reply compare(const arguments *a);
 
 /* A call whose answer is known without the enumerator: it writes these bytes to the front of the

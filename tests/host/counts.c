@@ -15,7 +15,7 @@ static const char *group_name;
 static unsigned long differences;
 static unsigned groups_passed, groups_failed;
 
-/* The call to show. A copy: the arguments themselves may be gone when a known value differs. */
+/* The call to show: a copy, since the arguments may be gone when a known value differs. */
 static arguments shown;
 static int call_shown;
 

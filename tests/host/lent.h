@@ -14,7 +14,7 @@ typedef struct lent {
 /* Maps the buffer's room; ends the program where it cannot. */
 void lent_open(lent *b);
 
-/* The first len bytes of the pattern with this seed. */
+/* LENT_ROOM bytes of the pattern with this seed. */
 const uint8_t *lent_pattern(size_t seed);
 
 /* A buffer of len bytes, filled with the pattern or with the given bytes. */
