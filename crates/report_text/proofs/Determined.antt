@@ -1,12 +1,18 @@
--- The promise of the report leaves nothing open: two texts on the same file are equal.
-use mathlib.Core.Path.{_≡_, refl, sym, ap, _∙_}
+-- The promise of the report leaves nothing open: two results on the same file are equal.
+use mathlib.Core.Path.{_≡_, refl, sym, ap, ap₂, _∙_}
 use mathlib.Core.List.{List, _++_}
-use Prim.Native.Nat.{ℕ, zero, suc}
+use Prim.Native.Nat.{ℕ, zero, suc, _<_, _≤_}
+use native.Mathlib.Decide.{decLt}
+use native.Mathlib.Omega.{arith}
+use lib.ListN.{length, getD}
+use lib.Seq.{ext-getD, getD-take, length-take-le}
 use Rattle.mealy.specs.Setting.{Setting}
 use Rattle.mealy.proofs.LeastWindows.{least-unique, fewest-letters}
 use Rattle.coder.specs.File.{fileRefusal, statesOf, inputsOf, outputsOf, settingOf}
 use Rattle.report_text.specs.Report.{coderLine, SecondLine, ReportPromise}
 use Rattle.report_text.specs.Report.SecondLine.{a-window, no-window}
+use Rattle.report_text.specs.Text.{written, Room}
+use Rattle.report_text.specs.declared.Text.{Text}
 
 second-determined : (S : Setting) (x y : List ℕ) → SecondLine S x → SecondLine S y → x ≡ y
 second-determined S x y (a-window b a p) (a-window b′ a′ q) =
@@ -16,15 +22,45 @@ second-determined S x y (a-window b a p) (no-window n) = absurd (n b a (p .works
 second-determined S x y (no-window n) (a-window b a p) = absurd (n b a (p .works))
 second-determined S x y (no-window n) (no-window m) = refl
 
-pub report-determined : (f x y : List ℕ) → ReportPromise f x → ReportPromise f y → x ≡ y
-report-determined f x y = go (fileRefusal f) refl
+text-determined : (f x y : List ℕ) → ReportPromise f x → ReportPromise f y → x ≡ y
+text-determined f x y = go (fileRefusal f) refl
   where
     go : (k : ℕ) → fileRefusal f ≡ k → ReportPromise f x → ReportPromise f y → x ≡ y
     go zero e p q =
         let v = rw e at p in
         let w = rw e at q in
-        v .is ∙ ap (λ (l : List ℕ). coderLine (statesOf f) (inputsOf f) (outputsOf f) ++ l) (second-determined (settingOf f) (v .second) (w .second) (v .right) (w .right)) ∙ sym (w .is)
+        v .is ∙
+        ap (λ (l : List ℕ). coderLine (statesOf f) (inputsOf f) (outputsOf f) ++ l)
+        (second-determined (settingOf f) (v .second) (w .second) (v .right) (w .right)) ∙
+        sym (w .is)
     go (suc k) e p q =
         let v = rw e at p in
         let w = rw e at q in
         v ∙ sym w
+
+-- one text stands in one way in the bytes
+module _ (r r′ : Text) (h : Room r 0) (h′ : Room r′ 0) (e : written r ≡ written r′) where
+  size : (t : Text) → Room t 0 → length (written t) ≡ t .len
+  size t k = length-take-le (t .len) (t .bytes) (omega (arith, k .space, k .free))
+
+  same-size : r .len ≡ r′ .len
+  same-size = sym (size r h) ∙ ap length e ∙ size r′ h′
+
+  same-bytes : r .bytes ≡ r′ .bytes
+  same-bytes =
+      ext-getD 0 (r .bytes) (r′ .bytes) (h .space ∙ sym (h′ .space))
+      (λ k l. elim (decLt k (r .len)) [
+        | yes m ↦
+            sym (getD-take (r .len) (r .bytes) k 0 m) ∙ ap (λ (x : List ℕ). getD x k 0) e ∙
+            getD-take (r′ .len) (r′ .bytes) k 0 (rw same-size at m)
+        | no m ↦
+            let n : r .len ≤ k = omega arith in
+            h .clear k n ∙ sym (h′ .clear k (rw same-size at n))
+      ])
+
+  same-text : r ≡ r′
+  same-text = ap₂ (λ (x : List ℕ) (n : ℕ). record { bytes = x; len = n }) same-bytes same-size
+
+pub report-determined :
+    (f : List ℕ) (r r′ : Text) → ReportPromise f (written r) → Room r 0 → ReportPromise f (written r′) → Room r′ 0 → r ≡ r′
+report-determined f r r′ p h q h′ = same-text r r′ h h′ (text-determined f (written r) (written r′) p q)

@@ -1,12 +1,12 @@
 -- Laws of a text that is written from its front on, and of decimal numbers.
-use mathlib.Core.Path.{_≡_, sym, ap, _∙_}
+use mathlib.Core.Path.{_≡_, refl, sym, ap, _∙_}
 use mathlib.Core.List.{List, [], _∷_, _++_, append-assoc, append-nil}
 use Prim.Native.Nat.{ℕ, _+_, _/_, _%_, _<_, _≤_}
 use native.Mathlib.Omega.{arith}
 use native.Mathlib.Numerals.{add-one}
 use native.Mathlib.Decide.{decLt}
-use lib.ListN.{length, getD, take, set, length-append, length-set}
-use lib.Seq.{take-suc, take-suc-set, length-take-le, take-length}
+use lib.ListN.{length, getD, take, set, replicate, length-append, length-set, getD-replicate, List·getD-eq-default}
+use lib.Seq.{take-suc, take-suc-set, length-take-le, take-length, getD-set-other}
 use borrow.Author.Tests.{lt-ltb, le-ltb}
 use Rattle.report_text.specs.Report.{digit, decimal}
 use Rattle.report_text.specs.Text.{written, Room, Appended}
@@ -14,8 +14,18 @@ use Rattle.report_text.specs.declared.Text.{Text}
 
 -- ---- appending
 
-pub appended-none : (t : Text) → length (t .bytes) ≡ 64 → Appended t [] t
-appended-none t e = record { text = sym (append-nil (written t)); size = omega arith; space = e }
+pub empty-room : Room (record { bytes = replicate 64 0; len = 0 }) 64
+empty-room = record {
+  space = refl;
+  free = omega arith;
+  clear = λ k l. elim (decLt k 64) [
+    | yes m ↦ getD-replicate {A = ℕ} 64 k 0 0 m
+    | no m ↦ List·getD-eq-default (replicate {A = ℕ} 64 0) 0 {n = k} (omega arith)
+  ];
+}
+
+pub appended-none : {k : ℕ} (t : Text) → Room t k → Appended t [] t
+appended-none t h = record { text = sym (append-nil (written t)); size = omega arith; space = h .space; clear = h .clear }
 
 pub appended-one :
     (t : Text) (x : ℕ) → Room t 1 → Appended t (x ∷ []) (record { bytes = set (t .bytes) (t .len) x; len = t .len + 1 })
@@ -25,6 +35,7 @@ appended-one t x h =
       text = ap (λ (k : ℕ). take k (set (t .bytes) (t .len) x)) (add-one (t .len)) ∙ take-suc-set (t .bytes) (t .len) x l;
       size = omega arith;
       space = length-set (t .bytes) (t .len) x ∙ h .space;
+      clear = λ k m. getD-set-other (t .bytes) (t .len) k x 0 (λ (e : k ≡ t .len). omega arith) ∙ h .clear k (omega arith);
     }
 
 pub appended-then : {t r u : Text} {xs ys : List ℕ} → Appended t xs r → Appended r ys u → Appended t (xs ++ ys) u
@@ -32,6 +43,7 @@ appended-then {t} {r} {u} {xs} {ys} a b = record {
   text = b .text ∙ ap (λ (l : List ℕ). l ++ ys) (a .text) ∙ append-assoc (written t) xs ys;
   size = omega (arith, length-append xs ys, a .size, b .size);
   space = b .space;
+  clear = b .clear;
 }
 
 -- one element more of some bytes
@@ -46,7 +58,7 @@ appended-all {t} {r} words i l m a = let e : i ≡ length words = omega arith in
 
 -- what room is left
 pub room-after : {t r : Text} {xs : List ℕ} {k : ℕ} (j : ℕ) → Room t k → Appended t xs r → length xs + j ≤ k → Room r j
-room-after {t} {r} {xs} {k} j h a l = record { space = a .space; free = omega (arith, h .free, a .size) }
+room-after {t} {r} {xs} {k} j h a l = record { space = a .space; free = omega (arith, h .free, a .size); clear = a .clear }
 
 pub room-one :
     {t r : Text} (words : List ℕ) (i : ℕ) → i < length words → Room t (length words) → Appended t (take i words) r → Room r 1

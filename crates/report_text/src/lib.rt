@@ -4,7 +4,7 @@ ghost use Rattle.report_text.specs.Text.{written, Room};
 
 pub mod inner; // inner.rt: the parts of the text; no public calls
 
-// The first `len` bytes are the text.
+// The first `len` bytes are the text, the others 0.
 pub struct Text {
     pub bytes: [u8; 64],
     pub len: usize,

@@ -42,7 +42,7 @@ put-requires-4 : tie.Need-put-requires-4
 put-requires-4 c κs = search needs
 
 returns : tie.Need-returns
-returns c = (from-empty (c .before .before .before .before .before .before .before .before .before .before .before .empty .ensures .0) (appended-then (appended-then (appended-then (appended-then (appended-then (appended-then (c .before .before .before .before .before .before .before .before .before .put .ensures) (c .before .before .before .before .before .before .before .before .number .ensures .0)) (c .before .before .before .before .before .before .put2 .ensures)) (c .before .before .before .before .before .number2 .ensures .0)) (c .before .before .before .put3 .ensures)) (c .before .before .number3 .ensures .0)) (c .put4 .ensures)), record { space = c .put4 .ensures .space; free = omega (arith, c .put4 .ensures .size, c .before .before .number3 .ensures .1, c .before .before .before .put3 .ensures .size, c .before .before .before .before .before .number2 .ensures .1, c .before .before .before .before .before .before .put2 .ensures .size, c .before .before .before .before .before .before .before .before .number .ensures .1, c .before .before .before .before .before .before .before .before .before .put .ensures .size, c .before .before .before .before .before .before .before .before .before .before .before .empty .ensures .0) })
+returns c = (from-empty (c .before .before .before .before .before .before .before .before .before .before .before .empty .ensures .0) (appended-then (appended-then (appended-then (appended-then (appended-then (appended-then (c .before .before .before .before .before .before .before .before .before .put .ensures) (c .before .before .before .before .before .before .before .before .number .ensures .0)) (c .before .before .before .before .before .before .put2 .ensures)) (c .before .before .before .before .before .number2 .ensures .0)) (c .before .before .before .put3 .ensures)) (c .before .before .number3 .ensures .0)) (c .put4 .ensures)), record { space = c .put4 .ensures .space; clear = c .put4 .ensures .clear; free = omega (arith, c .put4 .ensures .size, c .before .before .number3 .ensures .1, c .before .before .before .put3 .ensures .size, c .before .before .before .before .before .number2 .ensures .1, c .before .before .before .before .before .before .put2 .ensures .size, c .before .before .before .before .before .before .before .before .number .ensures .1, c .before .before .before .before .before .before .before .before .before .put .ensures .size, c .before .before .before .before .before .before .before .before .before .before .before .empty .ensures .0) })
 
 pub coder-line-spec : {M : Type 1} → statement M
 coder-line-spec =
