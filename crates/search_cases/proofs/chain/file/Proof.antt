@@ -1,8 +1,8 @@
--- `long` meets its contract: `p` stays within the entries.
+-- `file` meets its contract: `p` stays within the entries.
 use Prim.Native.Nat.{_≤_, _-_}
 use borrow.Author.Needs.{needs}
-use Rattle.search_cases.proofs.long.Statement.{statement}
-use Rattle.search_cases.proofs.long.Tie as tie
+use Rattle.search_cases.proofs.chain.file.Statement.{statement}
+use Rattle.search_cases.proofs.chain.file.Tie as tie
 
 abbrev Inv-loop : tie.InvT-loop
 Inv-loop kind file₀ p₀ file p = p ≤ 256
@@ -70,8 +70,8 @@ loop-again c = search needs
 returns : tie.Need-returns Inv-loop μ-loop
 returns c = search needs
 
-pub long-spec : {M : Type 1} → statement M
-long-spec =
+pub file-spec : {M : Type 1} → statement M
+file-spec =
     tie.close
     (tie.spec
     Inv-loop
