@@ -1,9 +1,11 @@
 -- `counts` meets its contract: the refusal, or the three counts of an accepted file.
 use mathlib.Core.Path.{_≡_}
+use Prim.Native.Nat.{ℕ}
 use native.Mathlib.Omega.{arith}
 use borrow.Author.Needs.{needs}
 use denote.Ref.{now}
 use Rattle.coder.specs.File.{fileRefusal}
+use Rattle.coder.specs.declared.Header.the-variants.{Counts}
 use Rattle.coder.proofs.Refusals.{refused-answer, via}
 use Rattle.coder.proofs.Accepted.{accepted}
 use Rattle.coder.proofs.counts.Statement.{statement}
@@ -27,8 +29,13 @@ byte-requires-2 c κs = omega (arith, accepted _ (not-refused (c .before)))
 byte-requires-3 : tie.Need-byte-requires-3
 byte-requires-3 c κs = omega (arith, accepted _ (not-refused (c .before .before)))
 
+counts-are : {n i o n′ i′ o′ : ℕ} → n ≡ n′ → i ≡ i′ → o ≡ o′ → Counts n i o ≡ Counts n′ i′ o′
+counts-are p q r = rw (p, q, r)
+
 returns-2 : tie.Need-returns-2
-returns-2 c = simp (not-refused (c .before .before .before)) (cc)
+returns-2 c =
+    simp (not-refused (c .before .before .before))
+    (counts-are (c .before .before .byte .ensures .0) (c .before .byte2 .ensures .0) (c .byte3 .ensures .0))
 
 pub counts-spec : {M : Type 1} → statement M
 counts-spec =
