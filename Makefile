@@ -18,6 +18,12 @@ lib:
 	rt staticlib lowhenita
 
 examples: lib
+	@for c in 'gcc -std=c99' 'clang -std=c99' 'g++ -x c++' 'clang++ -x c++'; do \
+	  if command -v $${c%% *} > /dev/null; then \
+	    echo "$$c -Wall -Wextra -Werror examples/decode.c"; \
+	    $$c -Wall -Wextra -Werror -O2 -Iinclude -c examples/decode.c -o target/decode.o || exit 1; \
+	  fi; \
+	done
 	$(CC) -std=c99 -Wall -Wextra -Werror -O2 -Iinclude examples/decode.c target/staticlib/liblowhenita.a -o target/decode
 	target/decode examples/A.coder 1 1 0 1
 

@@ -66,8 +66,9 @@ int main(int argc, char **argv)
     if (refused("search", lowhenita_search(file, file_len, letters, sizeof letters, result, sizeof result)))
         return 1;
     if (field(result, 0) == LOWHENITA_LOOPED_PAIR) {
-        printf("no decoder: two runs from states %lu and %lu stay equal in output for ever\n", field(result, 1),
-               field(result, 2));
+        printf("no decoder: two runs, from states %lu and %lu, have equal outputs for as long as one likes on\n"
+               "both sides of a place at which their inputs differ\n",
+               field(result, 1), field(result, 2));
         return 0;
     }
     before = field(result, 1);
