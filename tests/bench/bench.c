@@ -17,6 +17,7 @@ static coder_file file;
 static uint8_t input[LETTERS], sent[LETTERS], mine[TABLE], theirs[TABLE];
 static uint8_t my_letters[1026], their_letters[1026], result[64];
 static size_t before, after, letters;
+
 static uint64_t field(int k)
 {
     uint64_t x = 0;
@@ -249,5 +250,8 @@ int main(void)
     bench_string("string: 16 states, 16 inputs, 64 outputs, window 8 8", 8, 8, LETTERS);
     any_coder(16, 16, 16);
     bench_table("table: 16 states, 16 inputs, 16 outputs, 65,536 bytes", 2, 1);
+    any_coder(16, 16, 4);
+    bench_string("string: 16 states, 16 inputs, 4 outputs, window 2 2", 2, 2, LETTERS);
+    bench_table("table: 16 states, 16 inputs, 4 outputs, 65,536 bytes", 4, 3);
     return 0;
 }
