@@ -2,3 +2,4 @@
 pub mod Chains
 pub mod Entries
 pub mod Building
+pub mod Rows

@@ -1,2 +1,3 @@
 -- What the contracts of the chains cite.
 pub mod Chain
+pub mod Rows

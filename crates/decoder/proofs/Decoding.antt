@@ -13,7 +13,8 @@ use Rattle.coder.specs.Table.{coderOf, tableAt, Sound}
 use Rattle.coder.specs.declared.inner.tables.Coder.{Coder}
 use Rattle.coder.proofs.Accepted.{accepted}
 use Rattle.coder.proofs.Tables.{machine-same, sound-coder}
-use Rattle.chains.specs.Chain.{Keys, Chained}
+use Rattle.chains.specs.Chain.{Keys}
+use Rattle.chains.specs.Rows.{Rowed}
 use Rattle.pass.specs.Answer.{meaning, Right, RightByte}
 use Rattle.mealy.specs.Setting.{flagged}
 use Rattle.pass.specs.Pass.{ArraysOf, startSets, decoded}
@@ -58,10 +59,10 @@ module _ {c : Coder} {f : List ℕ} (h : CoderOf c f) where
           rw (lt-ltb (p % 16) 16 l, at) at (s .output-letter (p / 16) (p % 16))
 
   pub arrays-of :
-      {last previous : List ℕ} →
-      Chained (c .output) (c .states) (c .inputs) (record { last = last; previous = previous }) →
-      ArraysOf c (c .next) last previous
-  arrays-of k = record { sound = sound-of; next-is = refl; chained = k }
+      {start entries : List ℕ} →
+      Rowed (c .output) (c .states) (c .inputs) (record { start = start; entries = entries }) →
+      ArraysOf c (c .next) start entries
+  arrays-of k = record { sound = sound-of; next-is = refl; rowed = k }
 
 -- one window
 pub file-right :

@@ -42,7 +42,7 @@ filled-none {c} {o} {v} {left} {present} {x} {states} table z n e q =
     }
 
 -- the parts of the first o letters are filled
-pub record Filling (next last previous : List ℕ) (states outputs : ℕ) (v : List ℕ) (left present size after : ℕ)
+pub record Filling (next start entries : List ℕ) (states outputs : ℕ) (v : List ℕ) (left present size after : ℕ)
     (table : List ℕ) (o : ℕ) : Type 0 where
   pub bound : o ≤ outputs
   pub more : 0 < left
@@ -51,7 +51,7 @@ pub record Filling (next last previous : List ℕ) (states outputs : ℕ) (v : L
   pub whole : outputs ^ left ≡ outputs * size
   pub length-is : length table ≡ outputs ^ left
   pub is :
-      (c : Coder) → ArraysOf c next last previous → states ≡ c .states → (k : ℕ) → k < o * size →
+      (c : Coder) → ArraysOf c next start entries → states ≡ c .states → (k : ℕ) → k < o * size →
       getD table k 0 ≡ entry c outputs v left present k
 
 power : (o left : ℕ) → 0 < left → o ^ left ≡ o ^ (left - 1) * o
@@ -60,11 +60,11 @@ power o (suc m) l =
     let e : suc m - 1 ≡ m = omega arith in
     rw (pow-suc, e)
 
-module _ {next last previous : List ℕ} {states outputs : ℕ} {v : List ℕ} {left present after : ℕ} {table : List ℕ}
+module _ {next start entries : List ℕ} {states outputs : ℕ} {v : List ℕ} {left present after : ℕ} {table : List ℕ}
   where
     pub filling-start :
-        FillAsked next last previous states outputs left table → 0 < left → after ≡ pred present →
-        Filling next last previous states outputs v left present (length table / outputs) after table 0
+        FillAsked next start entries states outputs left table → 0 < left → after ≡ pred present →
+        Filling next start entries states outputs v left present (length table / outputs) after table 0
     filling-start q l e =
         let s = power outputs left l in
         let d : length table / outputs ≡ outputs ^ (left - 1) =
@@ -88,8 +88,8 @@ entry-digits :
 unfolding pass
 entry-digits c outputs v m present o e q l = rw (e, q, window-digits outputs m o _ (rw q at l))
 
-module _ {next last previous : List ℕ} {states outputs : ℕ} {v : List ℕ} {left present size after : ℕ} {table : List ℕ}
-    {o : ℕ} (f : Filling next last previous states outputs v left present size after table o) where
+module _ {next start entries : List ℕ} {states outputs : ℕ} {v : List ℕ} {left present size after : ℕ} {table : List ℕ}
+    {o : ℕ} (f : Filling next start entries states outputs v left present size after table o) where
   pub filling-room : o < outputs → o * size + size ≤ length table
   filling-room l = omega (arith, f .whole, f .length-is, mul-le-mul-right size l, suc-mul o size)
 
@@ -102,10 +102,10 @@ module _ {next last previous : List ℕ} {states outputs : ℕ} {v : List ℕ} {
   -- the table with the bytes ys in the place of the part of letter o
   pub filling-more :
       (to ys : List ℕ) → o < outputs →
-      ((c : Coder) → ArraysOf c next last previous → to ≡ advance c v o (eqb present 1)) →
-      ((c : Coder) → ArraysOf c next last previous → states ≡ c .states → Filled c outputs to (left - 1) after ys) →
+      ((c : Coder) → ArraysOf c next start entries → to ≡ advance c v o (eqb present 1)) →
+      ((c : Coder) → ArraysOf c next start entries → states ≡ c .states → Filled c outputs to (left - 1) after ys) →
       length ys ≡ length (midOf (o * size) (o * size + size - o * size) table) →
-      Filling next last previous states outputs v left present size after
+      Filling next start entries states outputs v left present size after
       (putMid (o * size) (o * size + size - o * size) table ys) (o + 1)
   filling-more to ys l advanced filled kept =
       let rest = postOf (o * size) (o * size + size - o * size) table in
@@ -138,7 +138,7 @@ module _ {next last previous : List ℕ} {states outputs : ℕ} {v : List ℕ} {
         ];
       }
 
-  pub filling-end : outputs ≤ o → (c : Coder) → ArraysOf c next last previous → states ≡ c .states →
+  pub filling-end : outputs ≤ o → (c : Coder) → ArraysOf c next start entries → states ≡ c .states →
       Filled c outputs v left present table
   filling-end l c a p =
       let e : o ≡ outputs = omega (arith, f .bound) in

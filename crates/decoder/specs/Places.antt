@@ -40,8 +40,8 @@ pub record StringPromise (f : List ℕ) (b a : ℕ) (w before : List ℕ) (r : C
       (Written (ByteAt (settingOf f) w b a) (places (length w) b a) before after)
 
 -- what the loop over the places asks: m windows of n letters lie in the string, and m bytes in the buffer
-pub record PlacesAsked (next last previous : List ℕ) (states : ℕ) (w : List ℕ) (b n m : ℕ) (before : List ℕ) : Type 0 where
-  pub arrays : Arrays next last previous
+pub record PlacesAsked (next start entries : List ℕ) (states : ℕ) (w : List ℕ) (b n m : ℕ) (before : List ℕ) : Type 0 where
+  pub arrays : Arrays next start entries
   pub states-high : states ≤ 16
   pub letters : Letters 64 w
   pub side : b ≤ 136

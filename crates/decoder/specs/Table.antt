@@ -47,8 +47,8 @@ abbrev pub sizeOf : ℕ → ℕ → ℕ
 sizeOf o n = pick (leb (o ^ n) 65536) (o ^ n) 0
 
 -- what the recursion over the letters asks: the part of the table has a byte for each window
-pub record FillAsked (next last previous : List ℕ) (states outputs left : ℕ) (table : List ℕ) : Type 0 where
-  pub arrays : Arrays next last previous
+pub record FillAsked (next start entries : List ℕ) (states outputs left : ℕ) (table : List ℕ) : Type 0 where
+  pub arrays : Arrays next start entries
   pub states-high : states ≤ 16
   pub outputs-low : 1 ≤ outputs
   pub outputs-high : outputs ≤ 64

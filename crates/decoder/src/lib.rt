@@ -28,12 +28,12 @@ pub fn window(file: &[u8], before: usize, after: usize, received: &[u8]) -> Wind
     let c = coder::inner::tables::Coder::from_checked(file);
     let states = c.states;
     let inputs = c.inputs;
-    let chain = chains::inner::by_key(&c.output, states, inputs);
+    let rows = chains::inner::rows_by_key(&c.output, states, inputs);
     let flags = [1u8; 16];
     WindowResult::Answered(pass::inner::decode(
         &c.next,
-        &chain.last,
-        &chain.previous,
+        &rows.start,
+        &rows.entries,
         states,
         &flags,
         received,
@@ -58,14 +58,14 @@ pub fn string(
     let c = coder::inner::tables::Coder::from_checked(file);
     let states = c.states;
     let inputs = c.inputs;
-    let chain = chains::inner::by_key(&c.output, states, inputs);
+    let rows = chains::inner::rows_by_key(&c.output, states, inputs);
     let flags = [1u8; 16];
     let n = before + 1 + after;
     let count = inner::places::places(received.len(), before, after);
     inner::places::decode_places(
         &c.next,
-        &chain.last,
-        &chain.previous,
+        &rows.start,
+        &rows.entries,
         states,
         &flags,
         received,
@@ -89,15 +89,15 @@ pub fn table(file: &[u8], before: usize, after: usize, table: &mut [u8]) -> Coun
     let states = c.states;
     let inputs = c.inputs;
     let outputs = c.outputs;
-    let chain = chains::inner::by_key(&c.output, states, inputs);
+    let rows = chains::inner::rows_by_key(&c.output, states, inputs);
     let flags = [1u8; 16];
     let n = before + 1 + after;
     let count = inner::table::size(outputs, n);
     let v = pass::inner::start_sets(&flags);
     inner::table::fill(
         &c.next,
-        &chain.last,
-        &chain.previous,
+        &rows.start,
+        &rows.entries,
         states,
         outputs,
         &v,

@@ -1,6 +1,6 @@
 -- The loops of the pass, one turn at a time.
-use mathlib.Core.Path.{_≡_, refl, sym, ap, _∙_}
-use mathlib.Core.Bool.{Bool, true, false}
+use mathlib.Core.Path.{_≡_, refl, sym, _∙_}
+use mathlib.Core.Bool.{Bool, true}
 use mathlib.Core.List.{List, [], _∷_}
 use Prim.Native.Nat.{ℕ, suc, pred, _+_, _-_, _*_, _/_, _%_, _^_, _≤_, _<_}
 use native.Mathlib.Numerals.{add-one}
@@ -8,16 +8,17 @@ use native.Mathlib.Omega.{arith}
 use lib.ListN.{length, getD, set, replicate, take, drop, length-set, getD-replicate}
 use lib.Dec.{eqb}
 use lib.Seq.{getD-set-same, getD-set-other, ext-getD, take-all}
-use borrow.Author.Tests.{eq-eqb, ne-eqb, eqb-true, eqb-false}
+use borrow.Author.Tests.{eq-eqb, ne-eqb}
 use borrow.Author.Count.{below-more}
 use Rattle.coder.proofs.Tables.{next-high}
 use Rattle.coder.specs.Refusal.{pick}
 use Rattle.coder.specs.Table.{table}
 use Rattle.coder.specs.declared.inner.tables.Coder.{Coder}
-use Rattle.coder.proofs.Refusals.{both-true}
 use Rattle.coder.proofs.Fill.{length-table, getD-table}
-use Rattle.chains.specs.Chain.{isEntry, hasKey, lastBelow, over}
+use Rattle.chains.specs.Chain.{hasKey, lastBelow, over}
+use Rattle.chains.specs.Rows.{ahead}
 use Rattle.chains.proofs.Chains.{last-bound, last-passes, over-last, over-step}
+use Rattle.chains.proofs.Rows.{ahead-in, ahead-end}
 use Rattle.pass.specs.Pass.{union, given, add, added, advance, pass, startSets, unionOf, greatest, answerOf, decoded, Arrays, ArraysOf}
 use Rattle.pass.specs.declared.Answer.{Answer}
 use Rattle.pass.specs.declared.Answer.the-variants.{Letter, Several}
@@ -95,87 +96,88 @@ module _ {flags : List ℕ} where
 abbrev pub hasOutput : Coder → ℕ → ℕ → Bool
 hasOutput c o p = hasKey (c .output) (c .states) (c .inputs) o p
 
-module _ {c : Coder} {next last previous : List ℕ} (a : ArraysOf c next last previous) where
-  next-is-below : (p : ℕ) → getD next p 0 < 16
-  next-is-below p =
-      rw (a .next-is)
-      (omega (arith, a .sound .states-high, next-high c (a .sound) p))
+-- the number of the entry at place j of the row of o, counted from 1; 0 at the row's end
+abbrev pub numberAt : List ℕ → List ℕ → ℕ → ℕ → ℕ
+numberAt start entries o j = ahead entries (getD start (o + 1) 0) 0 j
 
-  module _ (o : ℕ) where
-    last-is : o < 64 → getD last o 0 ≡ lastBelow (hasOutput c o) 256
-    last-is l = a .chained .last o l
-
-    previous-is : (p : ℕ) → p < 256 → hasOutput c o p ≡ true → getD previous p 0 ≡ lastBelow (hasOutput c o) p
-    unfolding hasKey
-    previous-is p l e =
-        let h = both-true (isEntry (c .states) (c .inputs) p) (eqb (getD (c .output) p 0) o) e in
-        a .chained .previous p l (h .0) ∙
-        ap (λ k. lastBelow (hasOutput c k) p) (eqb-true _ _ (h .1))
-
--- The walk along the chain of o has come to the entry with number q, and the sets are `to`.
-pub record Walked (next last previous v : List ℕ) (o : ℕ) (here : Bool) (from to : List ℕ) (q : ℕ) : Type 0 where
+-- The walk along the row of o has come to place j, and the sets are `to`.
+pub record Walked (next start entries v : List ℕ) (o : ℕ) (here : Bool) (from to : List ℕ) (j : ℕ) : Type 0 where
   pub size : length to ≡ 16
-  pub bound : q ≤ 256
+  pub within : getD start o 0 ≤ j
+  pub bound : numberAt start entries o j ≤ 256
   pub entry :
-      (c : Coder) → ArraysOf c next last previous → (p : ℕ) → q ≡ suc p →
+      (c : Coder) → ArraysOf c next start entries → (p : ℕ) → numberAt start entries o j ≡ suc p →
       hasOutput c o p ≡ true
   pub rest :
-      (c : Coder) → ArraysOf c next last previous →
-      over (hasOutput c o) (add (c .next) v here) to q ≡ added c v o here from
+      (c : Coder) → ArraysOf c next start entries →
+      over (hasOutput c o) (add (c .next) v here) to (numberAt start entries o j) ≡ added c v o here from
 
-module _ {next last previous : List ℕ} where
-  pub next-below : Arrays next last previous → (p : ℕ) → getD next p 0 < 16
-  next-below a p = next-is-below (a .is) p
+module _ {next start entries : List ℕ} where
+  pub next-below : Arrays next start entries → (p : ℕ) → getD next p 0 < 16
+  next-below a p =
+      let b = a .is in
+      rw (b .next-is) (omega (arith, b .sound .states-high, next-high (a .coder) (b .sound) p))
 
-  pub last-high : Arrays next last previous → (o : ℕ) → o < 64 → getD last o 0 ≤ 256
-  last-high a o l = rw (last-is (a .is) o l) (last-bound (hasOutput (a .coder) o) 256)
+  pub start-high : Arrays next start entries → (k : ℕ) → k ≤ 64 → getD start k 0 ≤ 256
+  start-high a k l = a .is .rowed .bound k l
 
   pub walked-none :
-      {v from : List ℕ} {o : ℕ} {here : Bool} → Arrays next last previous → o < 64 → length from ≡ 16 →
-      Walked next last previous v o here from from (getD last o 0)
+      {v from : List ℕ} {o : ℕ} {here : Bool} → Arrays next start entries → o < 64 → length from ≡ 16 →
+      Walked next start entries v o here from from (getD start o 0)
   unfolding added
   walked-none {v} {from} {o} {here} a l z =
       record {
         size = z;
-        bound = last-high a o l;
-        entry = λ c b p e. last-passes (hasOutput c o) 256 p (sym (last-is b o l) ∙ e);
+        within = omega arith;
+        bound = rw (a .is .rowed .row o l .first) (last-bound (hasOutput (a .coder) o) 256);
+        entry = λ c b p e. last-passes (hasOutput c o) 256 p (sym (b .rowed .row o l .first) ∙ e);
         rest = λ c b.
-            rw (last-is b o l) (sym (over-last (hasOutput c o) (add (c .next) v here) from 256));
+            rw (b .rowed .row o l .first) (sym (over-last (hasOutput c o) (add (c .next) v here) from 256));
       }
 
-  module _ {v from to : List ℕ} {o q : ℕ} {here : Bool} (w : Walked next last previous v o here from to q)
-      (a : Arrays next last previous) (p : ℕ) (e : q ≡ suc p) where
-    pub previous-high : getD previous p 0 ≤ p
-    previous-high =
-        rw (previous-is (a .is) o p (let b = w .bound in omega arith) (w .entry _ (a .is) p e))
-        (last-bound (hasOutput (a .coder) o) p)
+  module _ {v from to : List ℕ} {o j : ℕ} {here : Bool} (w : Walked next start entries v o here from to j)
+      (l : j < getD start (o + 1) 0) where
+    number-is : numberAt start entries o j ≡ suc (getD entries j 0)
+    number-is = ahead-in entries (getD start (o + 1) 0) 0 j l
 
-    walked-more :
-        {to′ : List ℕ} → length to′ ≡ 16 → to′ ≡ add next v here to p → Walked next last previous v o here from to′ (getD previous p 0)
-    walked-more {to′} z f =
-        let l : p < 256 = let b = w .bound in omega arith in
-        record {
-          size = z;
-          bound = let h = previous-high in omega arith;
-          entry = λ c b r g. last-passes (hasOutput c o) p r (sym (previous-is b o p l (w .entry c b p e)) ∙ g);
-          rest = λ c b.
-              let t = w .entry c b p e in
-              let g = add (c .next) v here in
-              rw (previous-is b o p l t, f, b .next-is)
-              (sym (over-last (hasOutput c o) g (g to p) p) ∙ sym (over-step (hasOutput c o) g to p t) ∙ rw (← e) (w .rest c b));
-        }
+    pub entry-high : getD entries j 0 < 256
+    entry-high = omega (arith, w .bound, number-is)
 
-    pub walked-add :
-        {x r : ℕ} → x ≡ given here p (getD v (p / 16) 0) → r ≡ union (getD to (getD next p 0) 0) x →
-        Walked next last previous v o here from (set to (getD next p 0) r) (getD previous p 0)
-    unfolding add
-    walked-add {x} {r} ex er = walked-more (length-set to (getD next p 0) r ∙ w .size) (rw (er, ex))
+    module _ (a : Arrays next start entries) (k : o < 64) where
+      walked-more :
+          {to′ : List ℕ} → length to′ ≡ 16 → to′ ≡ add next v here to (getD entries j 0) →
+          Walked next start entries v o here from to′ (j + 1)
+      walked-more {to′} z f =
+          let p = getD entries j 0 in
+          record {
+            size = z;
+            within = omega (arith, w .within);
+            bound = rw (after (a .is)) (omega (arith, entry-high, last-bound (hasOutput (a .coder) o) p));
+            entry = λ c b r g. last-passes (hasOutput c o) p r (sym (after b) ∙ g);
+            rest = λ c b.
+                let g = add (c .next) v here in
+                rw (after b, f, b .next-is)
+                (sym (over-last (hasOutput c o) g (g to p) p)
+                ∙ sym (over-step (hasOutput c o) g to p (w .entry c b p number-is)) ∙ rw (← number-is) (w .rest c b));
+          }
+        where
+          after :
+              {c : Coder} → ArraysOf c next start entries →
+              numberAt start entries o (j + 1) ≡ lastBelow (hasOutput c o) (getD entries j 0)
+          after b = b .rowed .row o k .more j (w .within) l
+
+      pub walked-add :
+          {x r : ℕ} → x ≡ given here (getD entries j 0) (getD v (getD entries j 0 / 16) 0) →
+          r ≡ union (getD to (getD next (getD entries j 0) 0) 0) x →
+          Walked next start entries v o here from (set to (getD next (getD entries j 0) 0) r) (j + 1)
+      unfolding add
+      walked-add {x} {r} ex er = walked-more (length-set to (getD next (getD entries j 0) 0) r ∙ w .size) (rw (er, ex))
 
   pub walked-all :
-      {v from to : List ℕ} {o q : ℕ} {here : Bool} → Walked next last previous v o here from to q → q ≡ 0 →
-      (c : Coder) → ArraysOf c next last previous → to ≡ added c v o here from
+      {v from to : List ℕ} {o j : ℕ} {here : Bool} → Walked next start entries v o here from to j →
+      getD start (o + 1) 0 ≤ j → (c : Coder) → ArraysOf c next start entries → to ≡ added c v o here from
   unfolding over
-  walked-all w e c a = rw e at (w .rest c a)
+  walked-all {o = o} {j = j} w l c a = rw (ahead-end entries (getD start (o + 1) 0) 0 j l) at (w .rest c a)
 
 -- no letter is left, or one is read
 pub rest : (w : List ℕ) → take (length w - 1) (drop 1 w) ≡ drop 1 w

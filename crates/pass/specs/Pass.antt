@@ -11,7 +11,8 @@ use lib.Dec.{eqb}
 use Rattle.coder.specs.Refusal.{pick}
 use Rattle.coder.specs.Table.{table, Sound}
 use Rattle.coder.specs.declared.inner.tables.Coder.{Coder}
-use Rattle.chains.specs.Chain.{hasKey, over, Chained}
+use Rattle.chains.specs.Chain.{hasKey, over}
+use Rattle.chains.specs.Rows.{Rowed}
 use Rattle.pass.specs.declared.Answer.{Answer}
 use Rattle.pass.specs.declared.Answer.the-variants.{Letter, None, Several}
 
@@ -62,12 +63,12 @@ unfoldable pub decoded : Coder → List ℕ → List ℕ → ℕ → Answer
 decoded c flags w b = answerOf (unionOf (c .states) (pass c (startSets flags) w (suc b)))
 
 -- the arrays that the functions inside take by reference are those of the coder c
-pub record ArraysOf (c : Coder) (next last previous : List ℕ) : Type 0 where
+pub record ArraysOf (c : Coder) (next start entries : List ℕ) : Type 0 where
   pub sound : Sound c
   pub next-is : next ≡ c .next
-  pub chained : Chained (c .output) (c .states) (c .inputs) (record { last = last; previous = previous })
+  pub rowed : Rowed (c .output) (c .states) (c .inputs) (record { start = start; entries = entries })
 
 -- they are those of some coder
-pub record Arrays (next last previous : List ℕ) : Type 0 where
+pub record Arrays (next start entries : List ℕ) : Type 0 where
   pub coder : Coder
-  pub is : ArraysOf coder next last previous
+  pub is : ArraysOf coder next start entries

@@ -34,23 +34,23 @@ fn given(here: bool, p: usize, u: u16) -> u16
 // Adds to the sets `to` what the states with the sets v give to their next states on one received letter.
 pub fn advance<'a>(
     next: &'a [u8; 256],
-    last: &'a [u16; 64],
-    previous: &'a [u16; 256],
+    start: &'a [u16; 65],
+    entries: &'a [u8; 256],
     v: &'a [u16; 16],
     o: usize,
     here: bool,
     to: &mut [u16; 16],
 )
-    requires { ⌜ Arrays (now next) (now last) (now previous) × (o < 64) × (length (now to) ≡ 16) ⌝ }
-    ensures { λ _. ⌜ ((c : Coder) → ArraysOf c (now (next .entry)) (now (last .entry)) (now (previous .entry)) → now (to .exit) ≡ added c (now (v .entry)) o here (now (to .entry))) ⌝ }
+    requires { ⌜ Arrays (now next) (now start) (now entries) × (o < 64) × (length (now to) ≡ 16) ⌝ }
+    ensures { λ _. ⌜ ((c : Coder) → ArraysOf c (now (next .entry)) (now (start .entry)) (now (entries .entry)) → now (to .exit) ≡ added c (now (v .entry)) o here (now (to .entry))) ⌝ }
 {
-    let mut q = last[o] as usize;
-    while 0 < q {
-        let p = q - 1;
-        let u = v[p / 16];
-        q = previous[p] as usize;
+    let mut j = start[o] as usize;
+    let end = start[o + 1] as usize;
+    while j < end {
+        let p = entries[j] as usize;
+        j += 1;
         let t = next[p] as usize;
-        to[t] = union(to[t], given(here, p, u));
+        to[t] = union(to[t], given(here, p, v[p / 16]));
     }
 }
 
@@ -119,39 +119,39 @@ pub fn present_after(present: usize) -> usize
 // `present` of those left, counted from 1; 0 where it has been read.
 fn pass<'a>(
     next: &'a [u8; 256],
-    last: &'a [u16; 64],
-    previous: &'a [u16; 256],
+    start: &'a [u16; 65],
+    entries: &'a [u8; 256],
     states: usize,
     v: &'a [u16; 16],
     left: &[u8],
     present: usize,
 ) -> Answer
-    requires { ⌜ Arrays (now next) (now last) (now previous) × ((states ≤ 16) × Letters 64 (now left)) ⌝ }
-    ensures { λ r. ⌜ ((c : Coder) → ArraysOf c (now (next .entry)) (now (last .entry)) (now (previous .entry)) → states ≡ c .states → r ≡ answerOf (unionOf states (passed c (now (v .entry)) (now (left .entry)) present))) ⌝ }
+    requires { ⌜ Arrays (now next) (now start) (now entries) × ((states ≤ 16) × Letters 64 (now left)) ⌝ }
+    ensures { λ r. ⌜ ((c : Coder) → ArraysOf c (now (next .entry)) (now (start .entry)) (now (entries .entry)) → states ≡ c .states → r ≡ answerOf (unionOf states (passed c (now (v .entry)) (now (left .entry)) present))) ⌝ }
 {
     if left.len() == 0 {
         return answer(v, states);
     }
     let o = byte(left, 0);
     let mut to = [EMPTY; 16];
-    advance(next, last, previous, v, o, present == 1, &mut to);
+    advance(next, start, entries, v, o, present == 1, &mut to);
     let after = present_after(present);
-    pass(next, last, previous, states, &to, &left[1..], after)
+    pass(next, start, entries, states, &to, &left[1..], after)
 }
 
 // The answer for the letters of a window with b letters before the present one.
 pub fn decode<'a>(
     next: &'a [u8; 256],
-    last: &'a [u16; 64],
-    previous: &'a [u16; 256],
+    start: &'a [u16; 65],
+    entries: &'a [u8; 256],
     states: usize,
     flags: &'a [u8; 16],
     window: &[u8],
     b: usize,
 ) -> Answer
-    requires { ⌜ Arrays (now next) (now last) (now previous) × ((states ≤ 16) × Letters 64 (now window)) × (b ≤ 136) ⌝ }
-    ensures { λ r. ⌜ ((c : Coder) → ArraysOf c (now (next .entry)) (now (last .entry)) (now (previous .entry)) → states ≡ c .states → r ≡ decoded c (now (flags .entry)) (now (window .entry)) b) ⌝ }
+    requires { ⌜ Arrays (now next) (now start) (now entries) × ((states ≤ 16) × Letters 64 (now window)) × (b ≤ 136) ⌝ }
+    ensures { λ r. ⌜ ((c : Coder) → ArraysOf c (now (next .entry)) (now (start .entry)) (now (entries .entry)) → states ≡ c .states → r ≡ decoded c (now (flags .entry)) (now (window .entry)) b) ⌝ }
 {
     let v = start_sets(flags);
-    pass(next, last, previous, states, &v, window, b + 1)
+    pass(next, start, entries, states, &v, window, b + 1)
 }

@@ -48,8 +48,8 @@ from-checked-requires c κs = string-accepted _ _ _ _ _ (not-refused c) .sides .
 coder-of : (c : tie.After-from-checked) → CoderOf (c .from-checked .result) (now (c .before .before .before .before .before .before .args .file))
 coder-of c = record { is = c .from-checked .ensures; file = string-accepted _ _ _ _ _ (not-refused (c .before)) .sides .file }
 
-by-key-requires : tie.Need-by-key-requires
-by-key-requires c κs = keys-of (coder-of (c .before .before))
+rows-by-key-requires : tie.Need-rows-by-key-requires
+rows-by-key-requires c κs = keys-of (coder-of (c .before .before))
 
 add-n : tie.Need-add-n
 add-n c = omega (arith, string-accepted _ _ _ _ _ (not-refused (c .before .before .before .before)) .sides)
@@ -74,7 +74,7 @@ decode-places-requires c κs =
     let m = k .places .ensures in
     let q : places (length (now (a .received))) (a .before) (a .after) ≤ length (now (a .output)) = leb-true _ _ (r .fits) in
     record {
-      arrays = record { coder = _; is = arrays-of h (k .before .by-key .ensures) };
+      arrays = record { coder = _; is = arrays-of h (k .before .rows-by-key .ensures) };
       states-high = s .states-high;
       letters =
           letters-higher (outputsOf (now (a .file))) 64 (now (a .received)) (omega (arith, s .outputs-high, outputs-of h))
@@ -99,7 +99,7 @@ returns-2 c =
       bytes =
           rw z
           (places-right h (now (a .received)) (a .before) (a .after) refl m
-          (c .before .before .decode-places .ensures _ (arrays-of h (k .before .by-key .ensures)) refl));
+          (c .before .before .decode-places .ensures _ (arrays-of h (k .before .rows-by-key .ensures)) refl));
     }
 
 pub string-spec : {M : Type 1} → statement M
@@ -109,7 +109,7 @@ string-spec =
     string-requires
     returns
     from-checked-requires
-    by-key-requires
+    rows-by-key-requires
     add-n
     add-n-2
     places-requires

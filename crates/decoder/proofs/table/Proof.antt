@@ -49,8 +49,8 @@ from-checked-requires c κs = table-accepted _ _ _ _ (not-refused c) .sides .fil
 coder-of : (c : tie.After-from-checked) → CoderOf (c .from-checked .result) (now (c .before .before .before .before .before .args .file))
 coder-of c = record { is = c .from-checked .ensures; file = table-accepted _ _ _ _ (not-refused (c .before)) .sides .file }
 
-by-key-requires : tie.Need-by-key-requires
-by-key-requires c κs = keys-of (coder-of (c .before .before))
+rows-by-key-requires : tie.Need-rows-by-key-requires
+rows-by-key-requires c κs = keys-of (coder-of (c .before .before))
 
 add-n : tie.Need-add-n
 add-n c = omega (arith, table-accepted _ _ _ _ (not-refused (c .before .before .before .before)) .sides)
@@ -101,7 +101,7 @@ fill-requires c κs =
     let h = coder-of (k .before .before .before .before) in
     let s = sound-of h in
     record {
-      arrays = record { coder = _; is = arrays-of h (k .before .by-key .ensures) };
+      arrays = record { coder = _; is = arrays-of h (k .before .rows-by-key .ensures) };
       states-high = s .states-high;
       outputs-low = s .outputs-low;
       outputs-high = s .outputs-high;
@@ -128,7 +128,7 @@ returns-2 c =
       bytes =
           rw z
           (table-right h (a .before) (a .after) (outputs-of h) refl n (room k) (c .before .before .before .before .before .before .before .before .before .before .start-sets .ensures)
-          (c .before .before .fill .ensures _ (arrays-of h (k .before .by-key .ensures)) refl));
+          (c .before .before .fill .ensures _ (arrays-of h (k .before .rows-by-key .ensures)) refl));
     }
 
 pub table-spec : {M : Type 1} → statement M
@@ -138,7 +138,7 @@ table-spec =
     table-requires
     returns
     from-checked-requires
-    by-key-requires
+    rows-by-key-requires
     add-n
     add-n-2
     size-requires

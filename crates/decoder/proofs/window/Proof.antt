@@ -30,8 +30,8 @@ from-checked-requires c κs = window-accepted _ _ _ _ _ (not-refused c) .sides .
 coder-of : (c : tie.After-from-checked) → CoderOf (c .from-checked .result) (now (c .before .before .before .before .before .args .file))
 coder-of c = record { is = c .from-checked .ensures; file = window-accepted _ _ _ _ _ (not-refused (c .before)) .sides .file }
 
-by-key-requires : tie.Need-by-key-requires
-by-key-requires c κs = keys-of (coder-of (c .before .before))
+rows-by-key-requires : tie.Need-rows-by-key-requires
+rows-by-key-requires c κs = keys-of (coder-of (c .before .before))
 
 decode-requires : tie.Need-decode-requires
 decode-requires c κs =
@@ -40,7 +40,7 @@ decode-requires c κs =
     let h = coder-of k in
     let s = sound-of h in
     let r = window-accepted _ _ _ _ _ (not-refused (k .before)) in (
-      record { coder = _; is = arrays-of h (c .before .before .before .before .before .before .by-key .ensures) },
+      record { coder = _; is = arrays-of h (c .before .before .before .before .before .before .rows-by-key .ensures) },
       (
         s .states-high,
         letters-higher (outputsOf (now (a .file))) 64 (now (a .received)) (omega (arith, s .outputs-high, outputs-of h))
@@ -61,7 +61,7 @@ returns-2 c =
       is = refl;
       right =
           answer-right h (now (a .received)) (a .before) (omega (arith, window-accepted _ _ _ _ _ z .size))
-          (c .decode .ensures _ (arrays-of h (c .before .before .before .before .before .before .before .by-key .ensures)) refl);
+          (c .decode .ensures _ (arrays-of h (c .before .before .before .before .before .before .before .rows-by-key .ensures)) refl);
     }
 
 pub window-spec : {M : Type 1} → statement M
@@ -71,6 +71,6 @@ window-spec =
     window-requires
     returns
     from-checked-requires
-    by-key-requires
+    rows-by-key-requires
     decode-requires
     returns-2)

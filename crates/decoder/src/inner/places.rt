@@ -18,8 +18,8 @@ pub fn places(len: usize, b: usize, a: usize) -> usize
 // Decodes the parts of n letters that start at the first m places of the received letters, each by itself.
 pub fn decode_places<'a>(
     next: &'a [u8; 256],
-    last: &'a [u16; 64],
-    previous: &'a [u16; 256],
+    start: &'a [u16; 65],
+    entries: &'a [u8; 256],
     states: usize,
     flags: &'a [u8; 16],
     received: &[u8],
@@ -28,13 +28,13 @@ pub fn decode_places<'a>(
     m: usize,
     output: &mut [u8],
 )
-    requires { ⌜ PlacesAsked (now next) (now last) (now previous) states (now received) b n m (now output) ⌝ }
-    ensures { λ _. ⌜ ((c : Coder) → ArraysOf c (now (next .entry)) (now (last .entry)) (now (previous .entry)) → states ≡ c .states → PlacesDecoded c (now (flags .entry)) (now (received .entry)) b n m (now (output .entry)) (now (output .exit))) ⌝ }
+    requires { ⌜ PlacesAsked (now next) (now start) (now entries) states (now received) b n m (now output) ⌝ }
+    ensures { λ _. ⌜ ((c : Coder) → ArraysOf c (now (next .entry)) (now (start .entry)) (now (entries .entry)) → states ≡ c .states → PlacesDecoded c (now (flags .entry)) (now (received .entry)) b n m (now (output .entry)) (now (output .exit))) ⌝ }
 {
     let mut k = 0;
     while k < m {
         let end = k + n;
-        let part = decode(next, last, previous, states, flags, &received[k..end], b);
+        let part = decode(next, start, entries, states, flags, &received[k..end], b);
         output[k] = answer_byte(part);
         k += 1;
     }

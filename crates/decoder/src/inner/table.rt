@@ -31,8 +31,8 @@ pub fn size(o: usize, n: usize) -> usize
 // the one numbered `present` of those left, counted from 1; 0 where it has been read.
 pub fn fill<'a>(
     next: &'a [u8; 256],
-    last: &'a [u16; 64],
-    previous: &'a [u16; 256],
+    start: &'a [u16; 65],
+    entries: &'a [u8; 256],
     states: usize,
     outputs: usize,
     v: &'a [u16; 16],
@@ -40,8 +40,8 @@ pub fn fill<'a>(
     present: usize,
     table: &mut [u8],
 )
-    requires { ⌜ FillAsked (now next) (now last) (now previous) states outputs left (now table) ⌝ }
-    ensures { λ _. ⌜ ((c : Coder) → ArraysOf c (now (next .entry)) (now (last .entry)) (now (previous .entry)) → states ≡ c .states → Filled c outputs (now (v .entry)) left present (now (table .exit))) ⌝ }
+    requires { ⌜ FillAsked (now next) (now start) (now entries) states outputs left (now table) ⌝ }
+    ensures { λ _. ⌜ ((c : Coder) → ArraysOf c (now (next .entry)) (now (start .entry)) (now (entries .entry)) → states ≡ c .states → Filled c outputs (now (v .entry)) left present (now (table .exit))) ⌝ }
 {
     if left == 0 {
         table[0] = answer_byte(answer(v, states));
@@ -52,13 +52,13 @@ pub fn fill<'a>(
     let mut o = 0;
     while o < outputs {
         let mut to = [EMPTY; 16];
-        advance(next, last, previous, v, o, present == 1, &mut to);
+        advance(next, start, entries, v, o, present == 1, &mut to);
         let from = o * size;
         let end = from + size;
         fill(
             next,
-            last,
-            previous,
+            start,
+            entries,
             states,
             outputs,
             &to,

@@ -1,60 +1,79 @@
--- `advance` meets its contract. The walk along the chain of o has come to the entry with number q, and what is left of the chain lies below q.
-use Prim.Native.Nat.{_-_}
-use Rattle.pass.proofs.Steps.{Walked, walked-none, walked-add, walked-all, next-below, last-high, previous-high}
+-- `advance` meets its contract. The walk along the row of o has come to place j.
+use Prim.Native.Nat.{_+_, _-_, _<_}
+use lib.ListN.{getD}
+use denote.Ref.{now}
+use Rattle.pass.proofs.Steps.{Walked, walked-none, walked-add, walked-all, next-below, start-high, entry-high}
 use borrow.Author.Needs.{needs}
 use native.Mathlib.Omega.{arith}
 use Rattle.pass.proofs.inner.advance.Statement.{statement}
 use Rattle.pass.proofs.inner.advance.Tie as tie
 
 abbrev Inv-loop : tie.InvT-loop
-Inv-loop next last previous v o here to₀ q₀ to q = Walked next last previous v o here to₀ to q
+Inv-loop next start entries v o here to₀ j₀ end to j = Walked next start entries v o here to₀ to j
 
 abbrev μ-loop : tie.MeasureT-loop
-μ-loop next last previous v o here to₀ q₀ to q = q
+μ-loop next start entries v o here to₀ j₀ end to j = end - j
 
-mul-q : tie.Need-mul-q Inv-loop μ-loop
-mul-q c = search needs
+mul-j : tie.Need-mul-j Inv-loop μ-loop
+mul-j c = search needs
 
-element-copy-out-q : tie.Need-element-copy-out-q Inv-loop μ-loop
-element-copy-out-q c = search needs
+element-copy-out-j : tie.Need-element-copy-out-j Inv-loop μ-loop
+element-copy-out-j c = search needs
 
-cast-q : tie.Need-cast-q Inv-loop μ-loop
-cast-q c = omega (arith, last-high (c .before .pre .0) (c .before .args .o) (c .before .pre .1))
+cast-j : tie.Need-cast-j Inv-loop μ-loop
+cast-j c = omega (arith, start-high (c .before .pre .0) (c .before .args .o) (omega arith))
+
+add-end : tie.Need-add-end Inv-loop μ-loop
+add-end c = search needs
+
+mul-end : tie.Need-mul-end Inv-loop μ-loop
+mul-end c = search needs
+
+element-copy-out-end : tie.Need-element-copy-out-end Inv-loop μ-loop
+element-copy-out-end c = search needs
+
+cast-end : tie.Need-cast-end Inv-loop μ-loop
+cast-end c = omega (arith, start-high (c .before .before .pre .0) (c .before .before .args .o + 1) (omega arith))
 
 loop-holds : tie.Need-loop-holds Inv-loop μ-loop
-loop-holds c = walked-none (c .before .pre .0) (c .before .pre .1) (c .before .pre .2)
+loop-holds c = let a = c .before .before .pre in walked-none (a .0) (a .1) (a .2)
 
-sub-p : tie.Need-sub-p Inv-loop μ-loop
-sub-p c = search needs
+element-copy-out-p : tie.Need-element-copy-out-p Inv-loop μ-loop
+element-copy-out-p c = let a = c .before .before .before .before in omega (arith, start-high (a .pre .0) (a .args .o + 1) (omega arith))
 
-mul-u : tie.Need-mul-u Inv-loop μ-loop
-mul-u c = search needs
+-- the entry at place j, and its next state
+place-high :
+    (c : tie.In-loop Inv-loop μ-loop) → getD (now (c .before .before .before .before .args .entries)) (c .before .loop .j) 0 < 256
+place-high c = entry-high (c .before .loop .inv) (c .loop-test .taken)
 
-element-copy-out-u : tie.Need-element-copy-out-u Inv-loop μ-loop
-element-copy-out-u c = search needs
+state-high :
+    (c : tie.In-loop Inv-loop μ-loop) → let a = c .before .before .before .before .args in
+    getD (now (a .next)) (getD (now (a .entries)) (c .before .loop .j) 0) 0 < 16
+state-high c = next-below (c .before .before .before .before .pre .0) _
 
-mul-q-2 : tie.Need-mul-q-2 Inv-loop μ-loop
-mul-q-2 c = search needs
+cast-p : tie.Need-cast-p Inv-loop μ-loop
+cast-p c = omega (arith, place-high (c .before))
 
-element-copy-out-q-2 : tie.Need-element-copy-out-q-2 Inv-loop μ-loop
-element-copy-out-q-2 c = search needs
-
-cast-q-2 : tie.Need-cast-q-2 Inv-loop μ-loop
-cast-q-2 c =
-    let i = c .before .before .before .loop in
-    omega (arith, previous-high (i .inv) (c .before .before .before .before .before .pre .0) (i .q - 1) (omega arith))
+add-j : tie.Need-add-j Inv-loop μ-loop
+add-j c = let a = c .before .before .before .before .before in omega (arith, start-high (a .pre .0) (a .args .o + 1) (omega arith))
 
 element-copy-out-t : tie.Need-element-copy-out-t Inv-loop μ-loop
-element-copy-out-t c = search needs
+element-copy-out-t c = place-high (c .before)
 
 cast-t : tie.Need-cast-t Inv-loop μ-loop
-cast-t c = omega (arith, next-below (c .before .before .before .before .before .before .pre .0) (c .before .before .before .before .loop .q - 1))
+cast-t c = omega (arith, state-high (c .before .before))
 
 mul-union : tie.Need-mul-union Inv-loop μ-loop
-mul-union c = omega (arith, next-below (c .before .before .before .before .before .before .pre .0) (c .before .before .before .before .loop .q - 1))
+mul-union c = omega (arith, state-high (c .before .before))
 
 element-copy-out-union : tie.Need-element-copy-out-union Inv-loop μ-loop
-element-copy-out-union c = next-below (c .before .before .before .before .before .before .pre .0) _
+element-copy-out-union c = state-high (c .before .before)
+
+mul-given : tie.Need-mul-given Inv-loop μ-loop
+mul-given c = omega (arith, place-high (c .before .before .before))
+
+element-copy-out-given : tie.Need-element-copy-out-given Inv-loop μ-loop
+element-copy-out-given c = omega (arith, place-high (c .before .before .before))
 
 given-requires : tie.Need-given-requires Inv-loop μ-loop
 given-requires c κs = search needs
@@ -63,20 +82,19 @@ union-requires : tie.Need-union-requires Inv-loop μ-loop
 union-requires c κs = search needs
 
 mul-to : tie.Need-mul-to Inv-loop μ-loop
-mul-to c = omega (arith, next-below (c .before .before .before .before .before .before .before .before .before .pre .0) (c .before .before .before .before .before .before .before .loop .q - 1))
+mul-to c = omega (arith, state-high (c .before .before .before .before .before .before))
 
 element-write-to : tie.Need-element-write-to Inv-loop μ-loop
-element-write-to c = next-below (c .before .before .before .before .before .before .before .before .before .pre .0) _
+element-write-to c = state-high (c .before .before .before .before .before .before)
 
 loop-less : tie.Need-loop-less Inv-loop μ-loop
-loop-less c =
-    let i = c .before .before .before .before .before .before .before .loop in
-    omega (arith, previous-high (i .inv) (c .before .before .before .before .before .before .before .before .before .pre .0) (i .q - 1) (omega arith))
+loop-less c = search needs
 
 loop-again : tie.Need-loop-again Inv-loop μ-loop
 loop-again c =
-    let i = c .before .before .before .before .before .before .before .loop in
-    walked-add (i .inv) (c .before .before .before .before .before .before .before .before .before .pre .0) (i .q - 1) (omega arith) (c .before .given .ensures) (c .union .ensures)
+    let i = c .before .before .before .before .before .before in
+    let a = i .before .before .before .before .pre in
+    walked-add (i .before .loop .inv) (i .loop-test .taken) (a .0) (a .1) (c .before .given .ensures) (c .union .ensures)
 
 returns : tie.Need-returns Inv-loop μ-loop
 returns c = walked-all (c .before .loop .inv) (omega arith)
@@ -87,20 +105,23 @@ advance-spec =
     (tie.spec
     Inv-loop
     μ-loop
-    mul-q
-    element-copy-out-q
-    cast-q
+    mul-j
+    element-copy-out-j
+    cast-j
+    add-end
+    mul-end
+    element-copy-out-end
+    cast-end
     loop-holds
-    sub-p
-    mul-u
-    element-copy-out-u
-    mul-q-2
-    element-copy-out-q-2
-    cast-q-2
+    element-copy-out-p
+    cast-p
+    add-j
     element-copy-out-t
     cast-t
     mul-union
     element-copy-out-union
+    mul-given
+    element-copy-out-given
     given-requires
     union-requires
     mul-to

@@ -15,11 +15,11 @@ use Rattle.decoder.proofs.inner.places.decode_places.Statement.{stateme
 use Rattle.decoder.proofs.inner.places.decode_places.Tie as tie
 
 abbrev Inv-loop : tie.InvT-loop
-Inv-loop next last previous states flags received b n m output₀ k₀ output k =
-    (k ≤ m) × (length output ≡ length output₀) × ((c : Coder) → ArraysOf c next last previous → states ≡ c .states → PlacesDecoded c flags received b n k output₀ output)
+Inv-loop next start entries states flags received b n m output₀ k₀ output k =
+    (k ≤ m) × (length output ≡ length output₀) × ((c : Coder) → ArraysOf c next start entries → states ≡ c .states → PlacesDecoded c flags received b n k output₀ output)
 
 abbrev μ-loop : tie.MeasureT-loop
-μ-loop next last previous states flags received b n m output₀ k₀ output k = m - k
+μ-loop next start entries states flags received b n m output₀ k₀ output k = m - k
 
 loop-holds : tie.Need-loop-holds Inv-loop μ-loop
 loop-holds c = (search needs, refl, λ d a e. written-none _ _)

@@ -30,11 +30,11 @@ abbrev fill-below : ℕ → In 2 fill-kinds.ps
 fill-below t = and 2 fill-kinds.ps (falls 2 fill-kinds.ps _<_ μ-fill t) fill.Pre
 
 abbrev fill-Inv-loop : fill-lts.InvT-loop
-fill-Inv-loop next last previous states outputs v left present table₀ size after o₀ table o =
-    Filling next last previous states outputs v left present size after table o
+fill-Inv-loop next start entries states outputs v left present table₀ size after o₀ table o =
+    Filling next start entries states outputs v left present size after table o
 
 abbrev fill-μ-loop : fill-lts.MeasureT-loop
-fill-μ-loop next last previous states outputs v left present table₀ size after o₀ table o = outputs - o
+fill-μ-loop next start entries states outputs v left present table₀ size after o₀ table o = outputs - o
 
 -- what the calls are asked and give
 abbrev claims : ℕ → fill-lts.Claims
