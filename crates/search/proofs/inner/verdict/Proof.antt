@@ -2,7 +2,6 @@
 use Rattle.search.proofs.Verdicts.{output-keys, choose-asked, window-says, find-from, pair-says}
 use borrow.Author.Needs.{needs}
 use native.Mathlib.Omega.{arith}
-use borrow.Author.Needs.{needs}
 use Rattle.search.proofs.inner.verdict.Statement.{statement}
 use Rattle.search.proofs.inner.verdict.Tie as tie
 
@@ -13,7 +12,7 @@ forward-requires : tie.Need-forward-requires
 forward-requires c κs = search needs
 
 by-key-requires : tie.Need-by-key-requires
-by-key-requires c κs = output-keys _ (c .before .before .before .before .before .before .before .before .before .pre .0)
+by-key-requires c κs = let s = c .before .before .before .before .before .before .before .before .before in output-keys _ (s .pre .0)
 
 conflicts-requires : tie.Need-conflicts-requires
 conflicts-requires c κs = search needs
@@ -21,20 +20,52 @@ conflicts-requires c κs = search needs
 needs-requires : tie.Need-needs-requires
 needs-requires c κs = search needs
 
+-- what was done before, seen from the end of `conflicts`: the two calls for the depths, and the start of the call
+abbrev forwarded : tie.After-conflicts → tie.After-forward
+forwarded d = d .before .before .before .before .before .before .before .before .before .before
+
+abbrev backed : tie.After-conflicts → tie.After-back
+backed d = forwarded d .before .before .before
+
+abbrev start : tie.After-conflicts → tie.Start
+start d = backed d .before .before .before .before
+
 choose-requires : tie.Need-choose-requires
-choose-requires c κs = choose-asked _ _ (c .before .before .before .before .before .before .before .before .before .before .before .before .before .before .before .before .before .before .before .before .before .pre .0) (c .before .before .before .before .before .before .before .before .before .before .before .before .before .before .before .before .before .before .before .before .before .pre .1) (c .before .before .before .before .before .before .before .before .before .before .before .before .before .before .before .before .before .back .ensures) (c .before .before .before .before .before .before .before .before .before .before .before .before .before .before .forward .ensures) (c .before .before .before .before .conflicts .ensures) (omega arith) (c .before .needs .result) (c .before .needs .ensures)
+choose-requires c κs =
+    let d = c .before .before .before .before in
+    let p = start d .pre in
+    choose-asked _ _ (p .0) (p .1) (backed d .back .ensures) (forwarded d .forward .ensures) (d .conflicts .ensures) (omega arith)
+    (c .before .needs .result) (c .before .needs .ensures)
 
 returns : tie.Need-returns
-returns c = window-says _ _ (c .before .before .before .before .before .before .before .before .before .before .before .before .before .before .before .before .before .before .before .before .before .before .pre .0) (c .before .before .before .before .before .before .before .before .before .before .before .before .before .before .before .before .before .before .before .before .before .before .pre .1) (c .before .before .before .before .before .before .before .before .before .before .before .before .before .before .before .before .before .before .back .ensures) (c .before .before .before .before .before .before .before .before .before .before .before .before .before .before .before .forward .ensures) (c .before .before .before .before .before .conflicts .ensures) (omega arith) (c .before .before .needs .result) (c .before .before .needs .ensures) _ _ (c .choose .ensures)
+returns c =
+    let d = c .before .before .before .before .before in
+    let p = start d .pre in
+    window-says _ _ (p .0) (p .1) (backed d .back .ensures) (forwarded d .forward .ensures) (d .conflicts .ensures) (omega arith)
+    (c .before .before .needs .result) (c .before .before .needs .ensures) _ _ (c .choose .ensures)
 
 find-requires : tie.Need-find-requires
-find-requires c κs = record { flags = c .before .before .before .before .before .before .before .before .before .before .before .before .before .before .before .before .before .before .before .before .before .before .before .args .flags .now; from = find-from _ _ (c .before .before .before .before .before .before .before .before .before .before .before .before .before .before .before .before .before .before .before .before .before .before .before .pre .0) (c .before .before .before .before .before .before .before .before .before .before .before .before .before .before .before .before .before .before .before .before .before .before .before .pre .1) (c .before .before .before .before .before .before .before .before .before .before .before .before .before .before .before .before .before .before .before .back .ensures) (c .before .before .before .before .before .before .before .before .before .before .before .before .before .before .before .before .forward .ensures) (c .before .before .before .before .before .before .conflicts .ensures) (omega arith); room = c .before .before .before .before .before .before .before .before .before .before .before .before .before .before .before .before .before .before .before .before .before .before .before .pre .2 }
+find-requires c κs =
+    let d = c .before .before .before .before .before .before in
+    let p = start d .pre in
+    record {
+      flags = start d .args .flags .now;
+      from = find-from _ _ (p .0) (p .1) (backed d .back .ensures) (forwarded d .forward .ensures) (d .conflicts .ensures) (omega arith);
+      room = p .2;
+    }
 
 same-length : tie.Need-same-length
 same-length c = search needs
 
 returns-2 : tie.Need-returns-2
-returns-2 c = pair-says _ _ (c .before .before .before .before .before .before .before .before .before .before .before .before .before .before .before .before .before .before .before .before .before .before .before .before .before .before .pre .0) (c .before .before .before .before .before .before .before .before .before .before .before .before .before .before .before .before .before .before .before .before .before .before .before .before .before .before .pre .1) (c .before .before .before .before .before .before .before .before .before .before .before .before .before .before .before .before .before .before .before .before .before .before .back .ensures) (c .before .before .before .before .before .before .before .before .before .before .before .before .before .before .before .before .before .before .before .forward .ensures) (c .before .before .before .before .before .before .before .before .before .conflicts .ensures) _ _ _ (c .before .before .find .ensures _ (find-from _ _ (c .before .before .before .before .before .before .before .before .before .before .before .before .before .before .before .before .before .before .before .before .before .before .before .before .before .before .pre .0) (c .before .before .before .before .before .before .before .before .before .before .before .before .before .before .before .before .before .before .before .before .before .before .before .before .before .before .pre .1) (c .before .before .before .before .before .before .before .before .before .before .before .before .before .before .before .before .before .before .before .before .before .before .back .ensures) (c .before .before .before .before .before .before .before .before .before .before .before .before .before .before .before .before .before .before .before .forward .ensures) (c .before .before .before .before .before .before .before .before .before .conflicts .ensures) (omega arith)))
+returns-2 c =
+    let d = c .before .before .before .before .before .before .before .before .before in
+    let p = start d .pre in
+    let back = backed d .back .ensures in
+    let forward = forwarded d .forward .ensures in
+    let found = d .conflicts .ensures in
+    let from = find-from _ _ (p .0) (p .1) back forward found (omega arith) in
+    pair-says _ _ (p .0) (p .1) back forward found _ _ _ (c .before .before .find .ensures _ from)
 
 pub verdict-spec : {M : Type 1} → statement M
 verdict-spec =
