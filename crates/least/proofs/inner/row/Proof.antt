@@ -1,6 +1,7 @@
 -- `row` meets its contract. The entries of the chain above the one numbered y are counted.
 use mathlib.Core.Path.{_≡_}
-use Prim.Native.Nat.{_≤_}
+use mathlib.Core.Logic.{_≢_}
+use Prim.Native.Nat.{_≤_, _<_, _-_, _%_}
 use Rattle.coder.specs.declared.inner.tables.Coder.{Coder}
 use Rattle.least.specs.Need.{RowOf}
 use Rattle.least.proofs.Counting.{RowAt, row-high, row-start, row-less, row-apart, row-counted, row-found, row-end, row-asked}
@@ -10,13 +11,18 @@ use Rattle.least.proofs.inner.row.Statement.{statement}
 use Rattle.least.proofs.inner.row.Tie as tie
 
 abbrev Inv-loop : tie.InvT-loop
-Inv-loop previous next backs forwards p from worst₀ y₀ worst y = (y ≤ 256) × ((c : Coder) → (r : RowOf c previous next p from) → RowAt c backs forwards previous next p from r worst₀ y worst)
+Inv-loop previous next backs forwards p from worst₀ y₀ worst y =
+    (y ≤ 256) ×
+    ((c : Coder) → (r : RowOf c previous next p from) → RowAt c backs forwards previous next p from r worst₀ y worst)
 
 abbrev μ-loop : tie.MeasureT-loop
 μ-loop previous next backs forwards p from worst₀ y₀ worst y = y
 
 loop-holds : tie.Need-loop-holds Inv-loop μ-loop
-loop-holds c = (row-high _ (c .args .backs .now) (c .args .forwards .now) _ _ _ _ (c .pre .of), λ k r. row-start _ _ _ _ _ _ _ r (c .pre .size))
+loop-holds c = (
+  row-high _ (c .args .backs .now) (c .args .forwards .now) _ _ _ _ (c .pre .of),
+  λ k r. row-start _ _ _ _ _ _ _ r (c .pre .size),
+)
 
 sub-q : tie.Need-sub-q Inv-loop μ-loop
 sub-q c = search needs
@@ -33,26 +39,60 @@ wide-requires c κs = search needs
 conflict-requires : tie.Need-conflict-requires Inv-loop μ-loop
 conflict-requires c κs = search needs
 
+-- the turn of the loop and the start of the call, seen from where the entry before is known
+abbrev turn : tie.After-wide Inv-loop μ-loop → tie.At-loop Inv-loop μ-loop
+turn w = w .before .before .before
+
+abbrev start : tie.After-wide Inv-loop μ-loop → tie.Start Inv-loop μ-loop
+start w = turn w .before
+
+less : (w : tie.After-wide Inv-loop μ-loop) → w .wide .result < turn w .loop .y
+less w = row-less _ _ _ _ _ _ _ _ (turn w .loop .inv .1 _ (start w .pre .of)) (omega arith) (w .wide .ensures)
+
+-- the two entries of a pair that is counted conflict
+differ : (c : tie.Then1 Inv-loop μ-loop) → start (c .before .before) .args .p % 16 ≢ (turn (c .before .before) .loop .y - 1) % 16
+differ c = c .before .conflict .ensures .yes′ (c .if1 .taken)
+
 count-requires : tie.Need-count-requires Inv-loop μ-loop
-count-requires c κs = row-asked _ _ _ _ _ _ _ _ (c .before .before .before .before .before .before .loop .inv .1 _ (c .before .before .before .before .before .before .before .pre .of)) (omega arith)
+count-requires c κs =
+    let w = c .before .before .before in
+    row-asked _ _ _ _ _ _ _ _ (turn w .loop .inv .1 _ (start w .pre .of)) (omega arith)
 
 returns : tie.Need-returns Inv-loop μ-loop
-returns c = λ k r. row-found _ _ _ _ _ _ _ r (c .before .before .before .before .before .before .before .before .loop .inv .1 k r) (omega arith) (c .before .before .before .before .conflict .ensures .yes′ (c .before .before .before .if1 .taken)) (c .before .count .ensures) (c .if2 .taken)
+returns c = λ k r.
+    let t = c .before .before .before in
+    row-found _ _ _ _ _ _ _ r (turn (t .before .before) .loop .inv .1 k r) (omega arith) (differ t) (c .before .count .ensures)
+    (c .if2 .taken)
 
 loop-less : tie.Need-loop-less Inv-loop μ-loop
-loop-less c = row-less _ _ _ _ _ _ _ _ (c .before .before .before .before .before .before .before .before .loop .inv .1 _ (c .before .before .before .before .before .before .before .before .before .pre .of)) (omega arith) (c .before .before .before .before .before .wide .ensures)
+loop-less c = let w = c .before .before .before .before .before in less w
 
 loop-again : tie.Need-loop-again Inv-loop μ-loop
-loop-again c = (omega (arith, row-less _ _ _ _ _ _ _ _ (c .before .before .before .before .before .before .before .before .loop .inv .1 _ (c .before .before .before .before .before .before .before .before .before .pre .of)) (omega arith) (c .before .before .before .before .before .wide .ensures)), λ k r. row-counted _ _ _ _ _ _ _ r (c .before .before .before .before .before .before .before .before .loop .inv .1 k r) (omega arith) (c .before .before .before .before .conflict .ensures .yes′ (c .before .before .before .if1 .taken)) (c .before .count .ensures) (c .if2 .left) (c .before .before .before .before .before .wide .ensures))
+loop-again c =
+    let t = c .before .before .before in
+    let w = t .before .before in (
+      omega (arith, less w),
+      λ k r.
+          row-counted _ _ _ _ _ _ _ r (turn w .loop .inv .1 k r) (omega arith) (differ t) (c .before .count .ensures) (c .if2 .left)
+          (w .wide .ensures),
+    )
 
 loop-less-2 : tie.Need-loop-less-2 Inv-loop μ-loop
-loop-less-2 c = row-less _ _ _ _ _ _ _ _ (c .before .before .before .before .before .loop .inv .1 _ (c .before .before .before .before .before .before .pre .of)) (omega arith) (c .before .before .wide .ensures)
+loop-less-2 c = less (c .before .before)
 
 loop-again-2 : tie.Need-loop-again-2 Inv-loop μ-loop
-loop-again-2 c = (omega (arith, row-less _ _ _ _ _ _ _ _ (c .before .before .before .before .before .loop .inv .1 _ (c .before .before .before .before .before .before .pre .of)) (omega arith) (c .before .before .wide .ensures)), λ k r. row-apart _ _ _ _ _ _ _ r (c .before .before .before .before .before .loop .inv .1 k r) (omega arith) (c .before .before .wide .ensures) (c .before .conflict .ensures .no′ (c .if1 .left)))
+loop-again-2 c =
+    let w = c .before .before in (
+      omega (arith, less w),
+      λ k r.
+          row-apart _ _ _ _ _ _ _ r (turn w .loop .inv .1 k r) (omega arith) (w .wide .ensures)
+          (c .before .conflict .ensures .no′ (c .if1 .left)),
+    )
 
 returns-2 : tie.Need-returns-2 Inv-loop μ-loop
-returns-2 c = λ k r. let e : c .before .loop .y ≡ 0 = omega arith in row-end _ _ _ _ _ _ _ r (rw e at (c .before .loop .inv .1 k r))
+returns-2 c = λ k r.
+    let e : c .before .loop .y ≡ 0 = omega arith in
+    row-end _ _ _ _ _ _ _ r (rw e at (c .before .loop .inv .1 k r))
 
 pub row-spec : {M : Type 1} → statement M
 row-spec =
