@@ -2,7 +2,6 @@
 use Rattle.coder.proofs.Refusals.{via}
 use Rattle.least.proofs.Counting.{count-both, count-one}
 use borrow.Author.Needs.{needs}
-use borrow.Author.Needs.{needs}
 use Rattle.least.proofs.inner.count.Statement.{statement}
 use Rattle.least.proofs.inner.count.Tie as tie
 
@@ -43,13 +42,20 @@ endless-requires : tie.Need-endless-requires
 endless-requires c κs = search needs
 
 returns : tie.Need-returns
-returns c = count-both _ _ _ _ _ _ (c .before .before .before .before .before .before .number .ensures .0) (c .before .before .before .before .number2 .ensures .0) (c .before .before .number3 .ensures .0) (c .before .before .number3 .ensures .1) (via (c .before .endless .ensures) (c .if1 .taken))
+returns c =
+    let n = c .before .before in
+    count-both _ _ _ _ _ _ (n .before .before .before .before .number .ensures .0) (n .before .before .number2 .ensures .0)
+    (n .number3 .ensures .0) (n .number3 .ensures .1) (via (c .before .endless .ensures) (c .if1 .taken))
 
 raise-requires : tie.Need-raise-requires
 raise-requires c κs = search needs
 
 returns-2 : tie.Need-returns-2
-returns-2 c = count-one _ _ _ _ _ _ (c .before .before .before .before .before .before .before .before .number .ensures .0) (c .before .before .before .before .before .before .number2 .ensures .0) (c .before .before .before .before .number3 .ensures .0) (c .before .before .before .before .number3 .ensures .1) (via (c .before .before .before .endless .ensures) (c .before .before .if1 .left)) (c .raise .ensures)
+returns-2 c =
+    let e = c .before .before in
+    let n = e .before .before in
+    count-one _ _ _ _ _ _ (n .before .before .before .before .number .ensures .0) (n .before .before .number2 .ensures .0)
+    (n .number3 .ensures .0) (n .number3 .ensures .1) (via (e .before .endless .ensures) (e .if1 .left)) (c .raise .ensures)
 
 pub count-spec : {M : Type 1} → statement M
 count-spec =
