@@ -23,8 +23,21 @@ enum-known-found c = search needs
 enum-known-v : tie.Need-enum-known-v
 enum-known-v c = search needs
 
+-- the buffer and the start of the call, seen from the end of the search
+abbrev buffered : tie.After-search → tie.After-buffer
+buffered s = s .before .before
+
+abbrev start : tie.After-search → tie.Start
+start s = buffered s .before .before
+
 window-line-requires : tie.Need-window-line-requires
-window-line-requires c κs = let h = window-short _ (c .before .before .before .before .before .before .before .before .before .buffer .result) (c .before .before .before .before .before .before .before .search .last .1 .0) (c .before .before .before .before .before .before .before .before .before .before .before .pre .0) (c .before .before .before .before .before .before .before .before .before .buffer .ensures) (c .before .before .before .before .before .before .before .search .ensures) (c .before .before .before .before .found .given .1) (c .before .v .given .1) in (omega (arith, h), omega (arith, h), c .before .before .before .before .before .before .before .before .before .before .before .pre .1)
+window-line-requires c κs =
+    let f = c .before .before .before .before in
+    let s = f .before .before .before in
+    let b = buffered s .buffer in
+    let h = window-short _ (b .result) (s .search .last .1 .0) (start s .pre .0) (b .ensures) (s .search .ensures) (f .found .given .1)
+    (c .before .v .given .1) in
+    (omega (arith, h), omega (arith, h), start s .pre .1)
 
 enum-told-2 : tie.Need-enum-told-2
 enum-told-2 c = search needs
@@ -33,13 +46,31 @@ no-decoder-line-requires : tie.Need-no-decoder-line-requires
 no-decoder-line-requires c κs = search needs
 
 returns : tie.Need-returns
-returns c = absurd (never-refused _ (c .before .before .before .before .before .buffer .result) (c .before .before .before .search .last .1 .0) (c .before .before .before .before .before .before .before .pre .0) (c .before .before .before .before .before .buffer .ensures) (c .before .before .before .search .ensures) (c .enum-told .given .1))
+returns c =
+    let s = c .before .before .before in
+    let b = buffered s .buffer in
+    absurd
+    (never-refused _ (b .result) (s .search .last .1 .0) (start s .pre .0) (b .ensures) (s .search .ensures) (c .enum-told .given .1))
 
 returns-2 : tie.Need-returns-2
-returns-2 c = (window-behind _ (c .before .before .before .before .before .before .before .before .before .before .buffer .result) (c .before .before .before .before .before .before .before .before .search .last .1 .0) (c .before .before .before .before .before .before .before .before .before .before .before .before .pre .0) (c .before .before .before .before .before .before .before .before .before .before .buffer .ensures) (c .before .before .before .before .before .before .before .before .search .ensures) (c .before .before .before .before .before .found .given .1) (c .before .before .v .given .1) (c .window-line .ensures .0), c .window-line .ensures .1)
+returns-2 c =
+    let f = c .before .before .before .before .before in
+    let s = f .before .before .before in
+    let b = buffered s .buffer in (
+      window-behind _ (b .result) (s .search .last .1 .0) (start s .pre .0) (b .ensures) (s .search .ensures) (f .found .given .1)
+          (c .before .before .v .given .1) (c .window-line .ensures .0),
+      c .window-line .ensures .1,
+    )
 
 returns-3 : tie.Need-returns-3
-returns-3 c = (no-decoder-behind _ (c .before .before .before .before .before .before .before .before .before .buffer .result) (c .before .before .before .before .before .before .before .search .last .1 .0) (c .before .before .before .before .before .before .before .before .before .before .before .pre .0) (c .before .before .before .before .before .before .before .before .before .buffer .ensures) (c .before .before .before .before .before .before .before .search .ensures) (c .before .before .before .before .found .given .1) (c .before .enum-told2 .given .1) (c .no-decoder-line .ensures .0), c .no-decoder-line .ensures .1)
+returns-3 c =
+    let f = c .before .before .before .before in
+    let s = f .before .before .before in
+    let b = buffered s .buffer in (
+      no-decoder-behind _ (b .result) (s .search .last .1 .0) (start s .pre .0) (b .ensures) (s .search .ensures) (f .found .given .1)
+          (c .before .enum-told2 .given .1) (c .no-decoder-line .ensures .0),
+      c .no-decoder-line .ensures .1,
+    )
 
 pub second-line-spec : {M : Type 1} → statement M
 second-line-spec =
