@@ -42,7 +42,34 @@ put-requires-4 : tie.Need-put-requires-4
 put-requires-4 c κs = search needs
 
 returns : tie.Need-returns
-returns c = (from-empty (c .before .before .before .before .before .before .before .before .before .before .before .empty .ensures .0) (appended-then (appended-then (appended-then (appended-then (appended-then (appended-then (c .before .before .before .before .before .before .before .before .before .put .ensures) (c .before .before .before .before .before .before .before .before .number .ensures .0)) (c .before .before .before .before .before .before .put2 .ensures)) (c .before .before .before .before .before .number2 .ensures .0)) (c .before .before .before .put3 .ensures)) (c .before .before .number3 .ensures .0)) (c .put4 .ensures)), record { space = c .put4 .ensures .space; clear = c .put4 .ensures .clear; free = omega (arith, c .put4 .ensures .size, c .before .before .number3 .ensures .1, c .before .before .before .put3 .ensures .size, c .before .before .before .before .before .number2 .ensures .1, c .before .before .before .before .before .before .put2 .ensures .size, c .before .before .before .before .before .before .before .before .number .ensures .1, c .before .before .before .before .before .before .before .before .before .put .ensures .size, c .before .before .before .before .before .before .before .before .before .before .before .empty .ensures .0) })
+returns c =
+    let n₃ = c .before .before in
+    let p₃ = n₃ .before in
+    let n₂ = p₃ .before .before in
+    let p₂ = n₂ .before in
+    let n₁ = p₂ .before .before in
+    let p₁ = n₁ .before in
+    let e = p₁ .before .before in
+    let first = appended-then (p₁ .put .ensures) (n₁ .number .ensures .0) in
+    let second = appended-then (appended-then first (p₂ .put2 .ensures)) (n₂ .number2 .ensures .0) in
+    let third = appended-then (appended-then second (p₃ .put3 .ensures)) (n₃ .number3 .ensures .0) in (
+      from-empty (e .empty .ensures .0) (appended-then third (c .put4 .ensures)),
+      record {
+        space = c .put4 .ensures .space;
+        clear = c .put4 .ensures .clear;
+        free = omega (
+          arith,
+          e .empty .ensures .0,
+          p₁ .put .ensures .size,
+          n₁ .number .ensures .1,
+          p₂ .put2 .ensures .size,
+          n₂ .number2 .ensures .1,
+          p₃ .put3 .ensures .size,
+          n₃ .number3 .ensures .1,
+          c .put4 .ensures .size,
+        );
+      },
+    )
 
 pub coder-line-spec : {M : Type 1} → statement M
 coder-line-spec =
