@@ -26,7 +26,13 @@ push-requires-3 : tie.Need-push-requires-3
 push-requires-3 c κs = search needs
 
 returns-2 : tie.Need-returns-2
-returns-2 c = let a = number-two _ (c .before .before .before .before .before .if1 .left) (c .before .before .before .before .if2 .taken) (c .before .before .before .digit2 .ensures) (c .before .digit3 .ensures) (c .before .before .push2 .ensures) (c .push3 .ensures) in (a, number-short _ a)
+returns-2 c =
+    let d₂ = c .before in
+    let d₁ = d₂ .before .before in
+    let t = d₁ .before in
+    let a = number-two _ (t .before .if1 .left) (t .if2 .taken) (d₁ .digit2 .ensures) (d₂ .digit3 .ensures)
+    (d₂ .before .push2 .ensures) (c .push3 .ensures) in
+    (a, number-short _ a)
 
 digit-requires-4 : tie.Need-digit-requires-4
 digit-requires-4 c κs = search needs
@@ -47,7 +53,13 @@ push-requires-6 : tie.Need-push-requires-6
 push-requires-6 c κs = search needs
 
 returns-3 : tie.Need-returns-3
-returns-3 c = let a = number-three _ (c .before .before .before .before .before .before .if2 .left) (c .before .before .before .before .before .digit4 .ensures) (c .before .before .before .digit5 .ensures) (c .before .digit6 .ensures) (c .before .before .before .before .push4 .ensures) (c .before .before .push5 .ensures) (c .push6 .ensures) in (a, number-short _ a)
+returns-3 c =
+    let d₃ = c .before in
+    let d₂ = d₃ .before .before in
+    let d₁ = d₂ .before .before in
+    let a = number-three _ (d₁ .before .if2 .left) (d₁ .digit4 .ensures) (d₂ .digit5 .ensures) (d₃ .digit6 .ensures)
+    (d₂ .before .push4 .ensures) (d₃ .before .push5 .ensures) (c .push6 .ensures) in
+    (a, number-short _ a)
 
 pub number-spec : {M : Type 1} → statement M
 number-spec =
