@@ -10,7 +10,8 @@ use Rattle.loops.proofs.inner.write.Statement.{statement}
 use Rattle.loops.proofs.inner.write.Tie as tie
 
 abbrev Inv-loop : tie.InvT-loop
-Inv-loop xs ys far from n place up letters₀ a₀ r₀ letters a r = (r ≤ n) × Followable xs ys far a × WroteTo xs ys far from n place up letters₀ r a letters
+Inv-loop xs ys far from n place up letters₀ a₀ r₀ letters a r =
+    (r ≤ n) × Followable xs ys far a × WroteTo xs ys far from n place up letters₀ r a letters
 
 abbrev μ-loop : tie.MeasureT-loop
 μ-loop xs ys far from n place up letters₀ a₀ r₀ letters a r = n - r
@@ -22,9 +23,16 @@ loop-holds c = (omega arith, c .before .pre .0 .follow 0, wrote-none _ _ _ _ _ _
 place-of-requires : tie.Need-place-of-requires Inv-loop μ-loop
 place-of-requires c κs = search needs
 
+-- the start of the call, seen from a turn of the loop
+abbrev start : tie.In-loop Inv-loop μ-loop → tie.Start Inv-loop μ-loop
+start i = i .before .before .before
+
 -- the place of the step
-placed : (c : tie.After-place-of Inv-loop μ-loop) → (c .before .before .before .before .args .place ≤ c .place-of .result) × (c .place-of .result < c .before .before .before .before .args .place + c .before .before .before .before .args .n)
-placed c = rw (c .place-of .ensures) (place-inside (c .before .before .before .before .args .up) _ _ _ (c .before .loop-test .taken))
+placed :
+    (p : tie.After-place-of Inv-loop μ-loop) →
+    (start (p .before) .args .place ≤ p .place-of .result) ×
+    (p .place-of .result < start (p .before) .args .place + start (p .before) .args .n)
+placed p = rw (p .place-of .ensures) (place-inside (start (p .before) .args .up) _ _ _ (p .before .loop-test .taken))
 
 mul-at : tie.Need-mul-at Inv-loop μ-loop
 mul-at c = omega (arith, placed c)
@@ -69,7 +77,7 @@ slice-write-letters-2 : tie.Need-slice-write-letters-2 Inv-loop μ-loop
 slice-write-letters-2 c = simp length-set (omega (arith, placed (c .before .before .before .before)))
 
 step-requires : tie.Need-step-requires Inv-loop μ-loop
-step-requires c κs = c .before .before .before .before .before .before .loop .inv .1
+step-requires c κs = let i = c .before .before .before .before .before in i .before .loop .inv .1
 
 add-r : tie.Need-add-r Inv-loop μ-loop
 add-r c = search needs
@@ -78,7 +86,15 @@ loop-less : tie.Need-loop-less Inv-loop μ-loop
 loop-less c = search needs
 
 loop-again : tie.Need-loop-again Inv-loop μ-loop
-loop-again c = let w = wrote-more _ _ _ _ _ _ _ _ (c .before .before .before .before .before .before .before .loop .inv .2) (c .before .before .before .before .before .before .loop-test .taken) (c .before .before .before .before .before .before .before .before .before .pre .0 .room) _ _ _ _ (c .before .before .before .before .before .place-of .ensures) (c .step .ensures) (ap (λ x. (x - 1) % 16) (c .before .before .before .wide .ensures)) (ap (λ x. (x - 1) % 16) (c .before .wide2 .ensures)) in (omega arith, rw (w .is) (c .before .before .before .before .before .before .before .before .before .pre .0 .follow _), w)
+loop-again c =
+    let w₂ = c .before in
+    let w₁ = w₂ .before .before in
+    let p = w₁ .before .before in
+    let i = p .before in
+    let asked = start i .pre .0 in
+    let w = wrote-more _ _ _ _ _ _ _ _ (i .before .loop .inv .2) (i .loop-test .taken) (asked .room) _ _ _ _ (p .place-of .ensures)
+    (c .step .ensures) (ap (λ x. (x - 1) % 16) (w₁ .wide .ensures)) (ap (λ x. (x - 1) % 16) (w₂ .wide2 .ensures)) in
+    (omega arith, rw (w .is) (asked .follow _), w)
 
 same-length : tie.Need-same-length Inv-loop μ-loop
 same-length c = search needs
