@@ -28,7 +28,8 @@ use Rattle.loops.specs.Pair.{pairOf, EndlessConflict, FindFrom, FoundPai
 use Rattle.loops.specs.declared.inner.Return.{Return}
 use Rattle.loops.specs.declared.LoopedPair.{LoopedPair}
 use Rattle.loops.proofs.Writing.{setTwo, two-size, two-other, two-first, two-second}
-use Rattle.loops.proofs.Endless.{parts, Endless, endless-pair, endless-start, endless-after, walk-follows, walk-step, steps-bound, steps-high}
+use Rattle.loops.proofs.Endless.{parts, Endless, endless-pair, endless-start, endless-after}
+use Rattle.loops.proofs.Endless.{walk-follows, walk-step, steps-bound, steps-high}
 
 -- lists with equal elements from place m on
 drop-same : (m : ℕ) (xs ys : List ℕ) → length xs ≡ length ys → ((k : ℕ) → m ≤ k → getD xs k 0 ≡ getD ys k 0) → drop m xs ≡ drop m ys
@@ -50,12 +51,21 @@ record ConflictAt (c : Coder) (backs forwards : List (List ℕ)) (p q : ℕ) : T
   pub back-endless : at backs (p / 16) (q / 16) ≡ 255
   pub forward-endless : at forwards (getD (c .next) p 0) (getD (c .next) q 0) ≡ 255
 
-conflict-at : (c : Coder) (flags : List ℕ) {backs forwards : List (List ℕ)} (e : product.Edge) → EndlessConflict c flags backs forwards e → ConflictAt c backs forwards (e .x - 1) (e .y - 1)
+conflict-at :
+    (c : Coder) (flags : List ℕ) {backs forwards : List (List ℕ)} (e : product.Edge) → EndlessConflict c flags backs forwards e →
+    ConflictAt c backs forwards (e .x - 1) (e .y - 1)
 conflict-at c flags e z =
     let p : e .x - 1 ≡ z .p = omega (arith, z .first) in
     let q : e .y - 1 ≡ z .q = omega (arith, z .second) in
     rw (p, q)
-    record { entry₁ = z .entry₁; entry₂ = z .entry₂; output = z .output; conflict = z .conflict; back-endless = z .back-endless; forward-endless = z .forward-endless }
+    record {
+      entry₁ = z .entry₁;
+      entry₂ = z .entry₂;
+      output = z .output;
+      conflict = z .conflict;
+      back-endless = z .back-endless;
+      forward-endless = z .forward-endless;
+    }
 
 -- the state of a run, from the number of a pair
 stateOf : Run → ℕ → ℕ
@@ -76,8 +86,12 @@ module _ (c : Coder) (flags : List ℕ) {bx by fx fy : List ℕ} {e : product.Ed
   at-entries = conflict-at c flags e (z .edge)
 
   pub entries-inside : (1 ≤ e .x) × (1 ≤ e .y) × (p < 256) × (q < 256)
-  entries-inside =
-      (omega (arith, z .edge .first), omega (arith, z .edge .second), entry-below c (z .sound) p (at-entries .entry₁), entry-below c (z .sound) q (at-entries .entry₂))
+  entries-inside = (
+    omega (arith, z .edge .first),
+    omega (arith, z .edge .second),
+    entry-below c (z .sound) p (at-entries .entry₁),
+    entry-below c (z .sound) q (at-entries .entry₂),
+  )
 
   source-low : q / 16 < 16
   source-low = omega (arith, z .sound .states-high, entry-place _ _ q (at-entries .entry₂) .state)
@@ -89,13 +103,15 @@ module _ (c : Coder) (flags : List ℕ) {bx by fx fy : List ℕ} {e : product.Ed
   module _ {start end : ℕ} (start-is : start ≡ 16 * (p / 16) + q / 16) (end-is : end ≡ 16 * getD (c .next) p 0 + getD (c .next) q 0) where
     back-start : Endless (c .states) (z .backs) start
     back-start =
-        rw start-is
-        (endless-pair _ _ _ _ (z .sound .states-high) (entry-place _ _ p (at-entries .entry₁) .state) (entry-place _ _ q (at-entries .entry₂) .state) (at-entries .back-endless))
+        let s = entry-place _ _ p (at-entries .entry₁) .state in
+        let t = entry-place _ _ q (at-entries .entry₂) .state in
+        rw start-is (endless-pair _ _ _ _ (z .sound .states-high) s t (at-entries .back-endless))
 
     forward-start : Endless (c .states) (z .forwards) end
     forward-start =
-        rw end-is
-        (endless-pair _ _ _ _ (z .sound .states-high) (next-low p (at-entries .entry₁)) (next-low q (at-entries .entry₂)) (at-entries .forward-endless))
+        let s = next-low p (at-entries .entry₁) in
+        let t = next-low q (at-entries .entry₂) in
+        rw end-is (endless-pair _ _ _ _ (z .sound .states-high) s t (at-entries .forward-endless))
 
     pub back-follows : (r : ℕ) → Followable bx by sources (after bx by sources start r)
     back-follows = walk-follows c (z .sound) flags back (z .back-found) back-start
@@ -157,19 +173,27 @@ module _ (c : Coder) (flags : List ℕ) {bx by fx fy : List ℕ} {e : product.Ed
         inside : 2 * B + 1 < length filled
         inside = omega (arith, back-high rb, wb .size)
 
+        kept : length now′ ≡ length before
+        kept = wf .size ∙ two-size filled (2 * B) (p % 16) (q % 16) ∙ wb .size
+
         letter-back : (k r : ℕ) → suc (k + r) ≡ B → LettersAt k (entryOf bx (Back r) % 16) (entryOf by (Back r) % 16)
         letter-back k r h =
             let m : 2 * k + 0 ≡ 2 * placeOf false 0 B r = omega arith in
-            let n : 2 * k + 1 ≡ 2 * placeOf false 0 B r + 1 = omega arith in
-            (byte-back (2 * k + 0) (omega arith) ∙ ap (λ i. getD filled i 0) m ∙ wb .first r (omega arith), byte-back (2 * k + 1) (omega arith) ∙ ap (λ i. getD filled i 0) n ∙ wb .second r (omega arith))
+            let n : 2 * k + 1 ≡ 2 * placeOf false 0 B r + 1 = omega arith in (
+              byte-back (2 * k + 0) (omega arith) ∙ ap (λ i. getD filled i 0) m ∙ wb .first r (omega arith),
+              byte-back (2 * k + 1) (omega arith) ∙ ap (λ i. getD filled i 0) n ∙ wb .second r (omega arith),
+            )
 
         letter-mark : (k : ℕ) → k ≡ B → LettersAt k (p % 16) (q % 16)
         letter-mark k h =
             let m : 2 * k + 0 ≡ 2 * B = omega arith in
-            let n : 2 * k + 1 ≡ 2 * B + 1 = omega arith in
-            (ap (λ i. getD now′ i 0) m ∙ wf .earlier (2 * B) (omega arith) ∙ two-first filled (2 * B) (p % 16) (q % 16) inside, ap (λ i. getD now′ i 0) n ∙ wf .earlier (2 * B + 1) (omega arith) ∙ two-second filled (2 * B) (p % 16) (q % 16) inside)
+            let n : 2 * k + 1 ≡ 2 * B + 1 = omega arith in (
+              ap (λ i. getD now′ i 0) m ∙ wf .earlier (2 * B) (omega arith) ∙ two-first filled (2 * B) (p % 16) (q % 16) inside,
+              ap (λ i. getD now′ i 0) n ∙ wf .earlier (2 * B + 1) (omega arith) ∙ two-second filled (2 * B) (p % 16) (q % 16) inside,
+            )
 
-        letter-forward : (k r : ℕ) → suc (B + r) ≡ k → r < f .steps → LettersAt k (entryOf fx (Forward r) % 16) (entryOf fy (Forward r) % 16)
+        letter-forward :
+            (k r : ℕ) → suc (B + r) ≡ k → r < f .steps → LettersAt k (entryOf fx (Forward r) % 16) (entryOf fy (Forward r) % 16)
         letter-forward k r h l =
             let m : 2 * k + 0 ≡ 2 * placeOf true (B + 1) (f .steps) r = omega arith in
             let n : 2 * k + 1 ≡ 2 * placeOf true (B + 1) (f .steps) r + 1 = omega arith in
@@ -181,33 +205,46 @@ module _ (c : Coder) (flags : List ℕ) {bx by fx fy : List ℕ} {e : product.Ed
         -- the edge at each place
         EdgeAt : ℕ → Type 0
         EdgeAt k =
-            Edge (machineOfCoder c) (σ first k) (σ second k) (letterAt (pairOf answer now′) first k) (letterAt (pairOf answer now′) second k) (σ first (suc k)) (σ second (suc k))
+            Edge (machineOfCoder c) (σ first k) (σ second k) (letterAt (pairOf answer now′) first k)
+            (letterAt (pairOf answer now′) second k) (σ first (suc k)) (σ second (suc k))
 
         edge-here :
             (k a b i j : ℕ) → pairAt k ≡ a → pairAt (suc k) ≡ b →
             LettersAt k i j →
             Edge (machineOfCoder c) (a / 16) (a % 16) i j (b / 16) (b % 16) → EdgeAt k
         unfolding EdgeAt σ stateOf
-        edge-here k a b i j g h l = edge-as (ap (λ x. x / 16) g) (ap (λ x. x % 16) g) (l .0) (l .1) (ap (λ x. x / 16) h) (ap (λ x. x % 16) h)
+        edge-here k a b i j g h l =
+            edge-as (ap (λ x. x / 16) g) (ap (λ x. x % 16) g) (l .0) (l .1) (ap (λ x. x / 16) h) (ap (λ x. x % 16) h)
 
         edge-mark : EdgeAt B
         unfolding after
         edge-mark =
             let u = parts (p / 16) (q / 16) source-low in
-            let v = parts (getD (c .next) p 0) (getD (c .next) q 0) (omega (arith, z .sound .states-high, next-low q (at-entries .entry₂))) in
-            edge-here B start end (p % 16) (q % 16) (pair-back B 0 (omega arith)) (pair-forward (suc B) 0 (omega arith)) (letter-mark B refl)
-            (edge-as (ap (λ x. x / 16) start-is ∙ u .0 ∙ sym (source-at p (entries-inside .2))) (ap (λ x. x % 16) start-is ∙ u .1 ∙ sym (source-at q (entries-inside .3))) refl refl (ap (λ x. x / 16) end-is ∙ v .0) (ap (λ x. x % 16) end-is ∙ v .1)
+            let l = next-low q (at-entries .entry₂) in
+            let v = parts (getD (c .next) p 0) (getD (c .next) q 0) (omega (arith, z .sound .states-high, l)) in
+            edge-here B start end (p % 16) (q % 16) (pair-back B 0 (omega arith)) (pair-forward (suc B) 0 (omega arith))
+            (letter-mark B refl)
+            (edge-as
+            (ap (λ x. x / 16) start-is ∙ u .0 ∙ sym (source-at p (entries-inside .2)))
+            (ap (λ x. x % 16) start-is ∙ u .1 ∙ sym (source-at q (entries-inside .3)))
+            refl
+            refl
+            (ap (λ x. x / 16) end-is ∙ v .0)
+            (ap (λ x. x % 16) end-is ∙ v .1)
             (entries-edge c (z .sound) p q (at-entries .entry₁) (at-entries .entry₂) (at-entries .output)))
 
         edge-at : (k : ℕ) → k < letters (pairOf answer now′) → EdgeAt k
         edge-at k l = elim (decLt k B) [
           | yes m ↦ (let r = B - suc k in
-              edge-here k (Back (suc r)) (Back r) (entryOf bx (Back r) % 16) (entryOf by (Back r) % 16) (pair-back k (suc r) (omega arith)) (pair-back (suc k) r (omega arith)) (letter-back k r (omega arith))
+              edge-here k (Back (suc r)) (Back r) (entryOf bx (Back r) % 16) (entryOf by (Back r) % 16)
+              (pair-back k (suc r) (omega arith)) (pair-back (suc k) r (omega arith)) (letter-back k r (omega arith))
               (walk-step c (z .sound) flags back (z .back-found) back-start r))
           | no m ↦ elim (ℕ-discrete k B) [
             | yes h ↦ rw h edge-mark
             | no h ↦ (let r = k - suc B in
-                edge-here k (Forward r) (Forward (suc r)) (entryOf fx (Forward r) % 16) (entryOf fy (Forward r) % 16) (pair-forward k r (omega arith)) (pair-forward (suc k) (suc r) (omega arith)) (letter-forward k r (omega arith) (omega (arith, l, rb .later, rf .later)))
+                edge-here k (Forward r) (Forward (suc r)) (entryOf fx (Forward r) % 16) (entryOf fy (Forward r) % 16)
+                (pair-forward k r (omega arith)) (pair-forward (suc k) (suc r) (omega arith))
+                (letter-forward k r (omega arith) (omega (arith, l, rb .later, rf .later)))
                 (walk-step c (z .sound) flags forward (z .forward-found) forward-start r))
           ]
         ]
@@ -215,22 +252,28 @@ module _ (c : Coder) (flags : List ℕ) {bx by fx fy : List ℕ} {e : product.Ed
         places : ValidPlaces S (pairOf answer now′) σ
         unfolding EdgeAt σ stateOf
         places = record {
-          held = omega (arith, room, wf .size, wb .size, two-size filled (2 * B) (p % 16) (q % 16), back-high rb, forward-high rf, rb .later, rf .later);
+          held = omega (arith, room, kept, back-high rb, forward-high rf, rb .later, rf .later);
           starts = λ r. elim r [ first ↦ ap (λ x. x / 16) begins | second ↦ ap (λ x. x % 16) begins ];
           start = λ r. elim r [ first ↦ starts .0 | second ↦ starts .1 ];
           back-letter = omega (arith, rb .later);
           forward-letter = omega (arith, rf .later);
           edges = edge-at;
-          conflict = λ h. at-entries .conflict (sym (letter-mark _ (omega (arith, rb .later)) .0) ∙ h ∙ letter-mark _ (omega (arith, rb .later)) .1);
-          back-closed = λ r. ap (stateOf r) (pair-back (B - b .lead) (b .lead) (omega (arith, rb .later)) ∙ sym (rb .again) ∙ sym (pair-back 0 B (omega arith)));
-          forward-closed = λ r. ap (stateOf r) (pair-forward _ (f .steps) (omega (arith, rb .later, rf .later)) ∙ rf .again ∙ sym (pair-forward _ (f .lead) (omega (arith, rb .later))));
+          conflict = λ h. at-entries .conflict
+              (sym (letter-mark _ (omega (arith, rb .later)) .0) ∙ h ∙ letter-mark _ (omega (arith, rb .later)) .1);
+          back-closed = λ r. ap (stateOf r)
+              (pair-back (B - b .lead) (b .lead) (omega (arith, rb .later)) ∙ sym (rb .again) ∙ sym (pair-back 0 B (omega arith)));
+          forward-closed = λ r. ap (stateOf r)
+              (pair-forward _ (f .steps) (omega (arith, rb .later, rf .later)) ∙ rf .again ∙
+              sym (pair-forward _ (f .lead) (omega (arith, rb .later))));
         }
           where
             begins : pairAt 0 ≡ b .pair
             begins = pair-back 0 B (omega arith) ∙ sym (rb .pair)
 
             starts : S .Start (b .pair / 16) × S .Start (b .pair % 16)
-            starts = rw (rb .pair) (endless-start c (z .sound) flags back (z .back-found) (endless-after c (z .sound) flags back (z .back-found) back-start B))
+            starts =
+                let endless = endless-after c (z .sound) flags back (z .back-found) back-start B in
+                rw (rb .pair) (endless-start c (z .sound) flags back (z .back-found) endless)
 
         pub found-pair : FoundPair c flags answer before now′
         found-pair = record {
@@ -240,8 +283,8 @@ module _ (c : Coder) (flags : List ℕ) {bx by fx fy : List ℕ} {e : product.Ed
             after = omega (arith, rf .later, steps-bound c (z .sound) flags forward (z .forward-found) forward-start rf);
           };
           size = kept;
-          rest = drop-same (2 * letters (pairOf answer now′)) now′ before kept (λ k l. wf .later k (omega (arith, rb .later, rf .later)) ∙ two-other filled (2 * B) (p % 16) (q % 16) k (λ d. omega (arith, rb .later)) (λ d. omega (arith, rb .later)) ∙ wb .later k (omega (arith, rb .later)));
+          rest = drop-same (2 * letters (pairOf answer now′)) now′ before kept (λ k l.
+              wf .later k (omega (arith, rb .later, rf .later)) ∙
+              two-other filled (2 * B) (p % 16) (q % 16) k (λ d. omega (arith, rb .later)) (λ d. omega (arith, rb .later)) ∙
+              wb .later k (omega (arith, rb .later)));
         }
-          where
-            kept : length now′ ≡ length before
-            kept = wf .size ∙ two-size filled (2 * B) (p % 16) (q % 16) ∙ wb .size
