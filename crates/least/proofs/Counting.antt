@@ -22,7 +22,8 @@ use Rattle.product.proofs.Entries.{entry-below, far-below}
 use Rattle.coder.proofs.Tables.{output-high}
 use Rattle.mealy.specs.Product.{forward}
 use mathlib.Core.Logic.{_≢_}
-use Rattle.least.specs.Need.{Conflicting, backOf, forwardOf, Counted, Source, Sources, raised, Grows, CountAsked, CountedOne, RowOf, RowDone, ConflictsAsked, ConflictsDone}
+use Rattle.least.specs.Need.{Conflicting, backOf, forwardOf, Counted, Source, Sources, raised, Grows}
+use Rattle.least.specs.Need.{CountAsked, CountedOne, RowOf, RowDone, ConflictsAsked, ConflictsDone}
 
 -- ---- the table with one number taken in
 
@@ -50,7 +51,9 @@ module _ (worst : List ℕ) (f x : ℕ) where
     pub raised-least : x ≤ getD (raised worst f x) f 0
     raised-least = raised-cases (λ w. x ≤ getD w f 0) (λ l. rw (getD-set-same worst f x 0 inside) (omega arith)) (λ l. l)
 
-    pub raised-sources : {c : Coder} {backs forwards : List (List ℕ)} → Source c backs forwards f x → Sources c backs forwards worst → Sources c backs forwards (raised worst f x)
+    pub raised-sources :
+        {c : Coder} {backs forwards : List (List ℕ)} → Source c backs forwards f x → Sources c backs forwards worst →
+        Sources c backs forwards (raised worst f x)
     raised-sources {c} {backs} {forwards} s h = raised-cases (Sources c backs forwards)
         (λ l g m. elim (ℕ-discrete g f) [
           | yes e ↦ (let z : getD (set worst f x) g 0 ≡ x = rw e (getD-set-same worst f x 0 inside) in rw (z, e) s)
@@ -58,12 +61,18 @@ module _ (worst : List ℕ) (f x : ℕ) where
         ])
         (λ l. h)
 
-counted-grows : {c : Coder} {backs forwards : List (List ℕ)} {worst later : List ℕ} {p q : ℕ} → Grows worst later → Counted c backs forwards worst p q → Counted c backs forwards later p q
-counted-grows {c} {backs} {forwards} {worst} {later} {p} {q} g k = record { least = omega (arith, k .least, g (forwardOf (c .next) forwards p q)); finite = k .finite }
+counted-grows :
+    {c : Coder} {backs forwards : List (List ℕ)} {worst later : List ℕ} {p q : ℕ} → Grows worst later →
+    Counted c backs forwards worst p q → Counted c backs forwards later p q
+counted-grows {c} {backs} {forwards} {worst} {later} {p} {q} g k = record {
+  least = omega (arith, k .least, g (forwardOf (c .next) forwards p q));
+  finite = k .finite;
+}
 
 -- ---- one edge
 
-module _ (next : List ℕ) (backs forwards : List (List ℕ)) (p q : ℕ) (before : List ℕ) {u v f : ℕ} (eu : u ≡ getD next p 0) (ev : v ≡ getD next q 0) (ef : f ≡ at forwards u v) (high : f < 256) where
+module _ (next : List ℕ) (backs forwards : List (List ℕ)) (p q : ℕ) (before : List ℕ) {u v f : ℕ}
+    (eu : u ≡ getD next p 0) (ev : v ≡ getD next q 0) (ef : f ≡ at forwards u v) (high : f < 256) where
   forward-is : f ≡ forwardOf next forwards p q
   forward-is = ef ∙ rw (eu, ev)
 
@@ -78,7 +87,9 @@ module _ (next : List ℕ) (backs forwards : List (List ℕ)) (p q : ℕ) (befor
         high = omega (arith, forward-is);
       }
 
-  pub count-one : both (eqb (backOf backs p q) 255) (eqb f 255) ≡ false → {after : List ℕ} → after ≡ raised before f (backOf backs p q) → CountedOne next backs forwards p q before false after
+  pub count-one :
+      both (eqb (backOf backs p q) 255) (eqb f 255) ≡ false → {after : List ℕ} → after ≡ raised before f (backOf backs p q) →
+      CountedOne next backs forwards p q before false after
   count-one e r =
       record {
         both = λ z. absurd (true-false z refl);
@@ -115,7 +126,9 @@ module _ (c : Coder) (backs forwards : List (List ℕ)) (previous next : List �
     size = e;
     grows = λ f. omega arith;
     sources = λ s. s;
-    counted = λ q k l. absurd (omega (arith, r .from-is, last-above Key q 256 (conflicting-key q k) (entry-below c (r .sound) q (k .entry₂))));
+    counted = λ q k l.
+        let m = last-above Key q 256 (conflicting-key q k) (entry-below c (r .sound) q (k .entry₂)) in
+        absurd (omega (arith, r .from-is, m));
   }
 
   module _ {before worst : List ℕ} {y : ℕ} (a : RowAt before y worst) (some : 0 < y) where
@@ -126,14 +139,18 @@ module _ (c : Coder) (backs forwards : List (List ℕ)) (previous next : List �
     entry-here = key-entry _ _ _ _ (y - 1) key-here
 
     next-is-last : {y′ : ℕ} → y′ ≡ getD previous (y - 1) 0 → y′ ≡ lastBelow Key (y - 1)
-    next-is-last e = e ∙ r .previous-is (y - 1) (entry-here .0) ∙ ap (λ o. lastBelow (hasKey (c .output) (c .states) (c .inputs) o) (y - 1)) (entry-here .1)
+    next-is-last e =
+        e ∙ r .previous-is (y - 1) (entry-here .0) ∙
+        ap (λ o. lastBelow (hasKey (c .output) (c .states) (c .inputs) o) (y - 1)) (entry-here .1)
 
     pub row-less : {y′ : ℕ} → y′ ≡ getD previous (y - 1) 0 → y′ < y
     row-less e = omega (arith, next-is-last e, last-bound Key (y - 1))
 
     -- the entry at y - 1 is seen to: it does not conflict, or it is counted in the table `later`
-    row-next : {y′ : ℕ} {later : List ℕ} → y′ ≡ getD previous (y - 1) 0 → length later ≡ 256 → Grows worst later → (Sources c backs forwards worst → Sources c backs forwards later)
-        → (Conflicting c p (y - 1) → Counted c backs forwards later p (y - 1)) → RowAt before y′ later
+    row-next :
+        {y′ : ℕ} {later : List ℕ} → y′ ≡ getD previous (y - 1) 0 → length later ≡ 256 → Grows worst later →
+        (Sources c backs forwards worst → Sources c backs forwards later) →
+        (Conflicting c p (y - 1) → Counted c backs forwards later p (y - 1)) → RowAt before y′ later
     row-next {y′} e s g h k = record {
       high = let l = a .high in omega (arith, row-less e);
       entry = λ q f. last-passes Key (y - 1) q (sym (next-is-last e) ∙ f);
@@ -165,7 +182,8 @@ module _ (c : Coder) (backs forwards : List (List ℕ)) (previous next : List �
     conflicting-here : p % 16 ≢ (y - 1) % 16 → Conflicting c p (y - 1)
     conflicting-here n = record { entry₁ = r .entry; entry₂ = entry-here .0; output = sym (entry-here .1); conflict = n }
 
-    module _ (differ : p % 16 ≢ (y - 1) % 16) {b : Bool} {later : List ℕ} (one : CountedOne next backs forwards p (y - 1) worst b later) where
+    module _ (differ : p % 16 ≢ (y - 1) % 16) {b : Bool} {later : List ℕ}
+        (one : CountedOne next backs forwards p (y - 1) worst b later) where
       pub row-counted : {y′ : ℕ} → b ≡ false → y′ ≡ getD previous (y - 1) 0 → RowAt before y′ later
       row-counted z e =
           let f = forwardOf next forwards p (y - 1) in
@@ -243,7 +261,9 @@ module _ (c : Coder) (backs forwards : List (List ℕ)) (sound : Sound c) where
       }
 
   -- no place past the last state holds an entry
-  pub rows-end : {before worst : List ℕ} {a : ℕ} → RowsTo before a worst → a ≡ 16 * c .states → ConflictsDone c backs forwards before (record { x = 0; y = 0 }) worst
+  pub rows-end :
+      {before worst : List ℕ} {a : ℕ} → RowsTo before a worst → a ≡ 16 * c .states →
+      ConflictsDone c backs forwards before (record { x = 0; y = 0 }) worst
   rows-end {a} h e = record {
     size = h .size;
     sources = h .sources;
@@ -253,11 +273,15 @@ module _ (c : Coder) (backs forwards : List (List ℕ)) (sound : Sound c) where
   }
 
   -- the row of the entry at place a
-  pub row-of : {last previous before : List ℕ} {a o from : ℕ} → ConflictsAsked c last previous before → a / 16 < c .states → a % 16 < c .inputs → o ≡ getD (c .output) a 0 → from ≡ getD last o 0 → RowOf c previous (c .next) a from
+  pub row-of :
+      {last previous before : List ℕ} {a o from : ℕ} → ConflictsAsked c last previous before → a / 16 < c .states →
+      a % 16 < c .inputs → o ≡ getD (c .output) a 0 → from ≡ getD last o 0 → RowOf c previous (c .next) a from
   row-of {last} {previous} {before} {a} {o} k l m e f = record {
     sound = sound;
     next-is = refl;
     entry = is-entry _ _ a l m;
-    from-is = f ∙ ap (λ z. getD last z 0) e ∙ k .chained .last (getD (c .output) a 0) (omega (arith, output-high c sound a, sound .outputs-high));
+    from-is =
+        f ∙ ap (λ z. getD last z 0) e ∙
+        k .chained .last (getD (c .output) a 0) (omega (arith, output-high c sound a, sound .outputs-high));
     previous-is = λ q n. k .chained .previous q (entry-below c sound q n) n;
   }
