@@ -27,7 +27,8 @@ use Rattle.least.specs.declared.Window.{Window}
 pub depth-above : (P : ℕ → Type 0) → ((k : ℕ) → P (suc k) → P k) → (x k : ℕ) → Depth P x → P k → x < 255 → k < x
 depth-above P fall x k d p l = elim (decLt k x) [ yes m ↦ m | no m ↦ absurd (d .falls l (down P fall {m = x} {k = k} (omega arith) p)) ]
 
-module _ (c : Coder) (flags : List ℕ) (sound : Sound c) (backs forwards : List (List ℕ)) (back-depths : Depths (flagged (machineOfCoder c) flags) back backs)
+module _ (c : Coder) (flags : List ℕ) (sound : Sound c) (backs forwards : List (List ℕ))
+    (back-depths : Depths (flagged (machineOfCoder c) flags) back backs)
     (forward-depths : Depths (flagged (machineOfCoder c) flags) forward forwards) where
   abbrev S : Setting
   S = flagged (machineOfCoder c) flags
@@ -42,13 +43,20 @@ module _ (c : Coder) (flags : List ℕ) (sound : Sound c) (backs forwards : List
   swapped k = record { entry₁ = k .entry₂; entry₂ = k .entry₁; output = sym (k .output); conflict = λ e. k .conflict (sym e) }
 
   back-depth : (p q : ℕ) → Conflicting c p q → Depth (λ k. Level S back k (p / 16) (q / 16)) (backOf backs p q)
-  back-depth p q k = back-depths .depth (p / 16) (q / 16) (state-high _ (entry-place _ _ p (k .entry₁) .state)) (state-high _ (entry-place _ _ q (k .entry₂) .state))
+  back-depth p q k =
+      let s = entry-place _ _ p (k .entry₁) .state in
+      let t = entry-place _ _ q (k .entry₂) .state in
+      back-depths .depth (p / 16) (q / 16) (state-high _ s) (state-high _ t)
 
-  forward-depth : (p q : ℕ) → Conflicting c p q → Depth (λ k. Level S forward k (getD (c .next) p 0) (getD (c .next) q 0)) (forwardOf (c .next) forwards p q)
+  forward-depth :
+      (p q : ℕ) → Conflicting c p q →
+      Depth (λ k. Level S forward k (getD (c .next) p 0) (getD (c .next) q 0)) (forwardOf (c .next) forwards p q)
   forward-depth p q k = forward-depths .depth _ _ (next-state p k) (next-state q (swapped k))
 
   -- a conflicting edge of the product machine, by its entries
-  conflict-edge : (b a p q : ℕ) → Conflicting c p q → Level S back b (p / 16) (q / 16) → Level S forward a (getD (c .next) p 0) (getD (c .next) q 0) → Ambiguous S b a
+  conflict-edge :
+      (b a p q : ℕ) → Conflicting c p q → Level S back b (p / 16) (q / 16) →
+      Level S forward a (getD (c .next) p 0) (getD (c .next) q 0) → Ambiguous S b a
   conflict-edge b a p q k h g = record {
     s = p / 16;
     t = q / 16;
@@ -57,7 +65,10 @@ module _ (c : Coder) (flags : List ℕ) (sound : Sound c) (backs forwards : List
     u = getD (c .next) p 0;
     v = getD (c .next) q 0;
     from = h;
-    edge = rw (source-at p (entry-below c sound p (k .entry₁)), source-at q (entry-below c sound q (k .entry₂))) at (entries-edge c sound p q (k .entry₁) (k .entry₂) (k .output));
+    edge =
+        let l = entry-below c sound p (k .entry₁) in
+        let m = entry-below c sound q (k .entry₂) in
+        rw (source-at p l, source-at q m) at (entries-edge c sound p q (k .entry₁) (k .entry₂) (k .output));
     conflict = k .conflict;
     to = g;
   }
@@ -89,7 +100,8 @@ module _ (c : Coder) (flags : List ℕ) (sound : Sound c) (backs forwards : List
         level-forward = rw (x .next₁, x .next₂) (e .to);
       }
 
-  module _ (worst need : List ℕ) (counted : (p q : ℕ) → Conflicting c p q → Counted c backs forwards worst p q) (from : Sources c backs forwards worst) (needs : Needs worst need) where
+  module _ (worst need : List ℕ) (counted : (p q : ℕ) → Conflicting c p q → Counted c backs forwards worst p q)
+      (from : Sources c backs forwards worst) (needs : Needs worst need) where
     -- what is needed was counted at an edge to a pair that stands at level a forward
     record NeedSource (a : ℕ) : Type 0 where
       p : ℕ
@@ -134,7 +146,10 @@ module _ (c : Coder) (flags : List ℕ) (sound : Sound c) (backs forwards : List
               let stands : Level S back b (n .p / 16) (n .q / 16) → ⊥ = λ h.
               works→unambiguous S b a f (conflict-edge b a (n .p) (n .q) k h (forward-depth (n .p) (n .q) k .stands a (n .past))) in
               elim (decLt (getD need a 0) 255) [
-                | yes o ↦ (o, elim (decLe (getD need a 0) b) [ yes e ↦ e | no e ↦ absurd (stands (d .stands b (omega (arith, n .back-is)))) ])
+                | yes o ↦ (
+                  o,
+                  elim (decLe (getD need a 0) b) [ yes e ↦ e | no e ↦ absurd (stands (d .stands b (omega (arith, n .back-is)))) ],
+                )
                 | no o ↦ absurd (stands (d .endless (omega (arith, n .back-is, d .high)) b))
               ])
         ]
@@ -151,19 +166,22 @@ module _ (c : Coder) (flags : List ℕ) (sound : Sound c) (backs forwards : List
             ] in
             let u = needs a (omega arith) .upper f past (omega (arith, df .high)) in
             let w = counted (x .p) (x .q) k .least in
-            let n : backOf backs (x .p) (x .q) < 255 = omega (arith, u, w, m .0) in
-            omega (arith, u, w, m .1, depth-above (λ k. Level S back k _ _) (λ k. level-fall S back k _ _) (backOf backs (x .p) (x .q)) b (back-depth (x .p) (x .q) k) (x .level-back) n))
+            let y = backOf backs (x .p) (x .q) in
+            let n : y < 255 = omega (arith, u, w, m .0) in
+            let db = back-depth (x .p) (x .q) k in
+            let o = depth-above (λ k. Level S back k _ _) (λ k. level-fall S back k _ _) y b db (x .level-back) n in
+            omega (arith, u, w, m .1, o))
 
     -- the first of the candidates is the least window among all, whatever their sides, and its own are small
     pub least-window : Closed S → (w : Window) → Chosen need w → Least FewestLetters S (w .before) (w .after)
     least-window closed w h =
+        let settled = settled-by S (start-decided c back flags sound) (start-bounded c back flags sound) in
         rw (h .is)
-        (least-need fewest-letters S closed 136
-        (settled-by S (start-decided c back flags sound) (start-bounded c back flags sound) forward 136 (pairs-high (c .states) (sound .states-high)))
-        255 (λ a. getD need a 0) (need-is closed) (w .after) (h .lookahead) (h .finite)
-        (λ a l m. rw (h .is) at (h .first a l m)))
+        (least-need fewest-letters S closed 136 (settled forward 136 (pairs-high (c .states) (sound .states-high))) 255
+        (λ a. getD need a 0) (need-is closed) (w .after) (h .lookahead) (h .finite) (λ a l m. rw (h .is) at (h .first a l m)))
 
   pub sides-small : Closed S → (b a : ℕ) → Least FewestLetters S b a → (b ≤ pairs (c .states)) × (a ≤ pairs (c .states))
   sides-small closed =
       let settled = settled-by S (start-decided c back flags sound) (start-bounded c back flags sound) in
-      least-sides S closed (pairs (c .states)) (pairs (c .states)) (settled back (pairs (c .states)) (omega arith)) (settled forward (pairs (c .states)) (omega arith))
+      let n = pairs (c .states) in
+      least-sides S closed n n (settled back n (omega arith)) (settled forward n (omega arith))
