@@ -65,7 +65,9 @@ module _ (c : Coder) (d : Direction) (sound : Sound c) where
             elim (ℕ-discrete (suc a) x) [ yes g ↦ absurd (omega (arith, k .none-before .second a b j s g)) | no g ↦ omega arith ]
 
     -- an edge that does not stand is passed
-    pub seek-next : (p q : ℕ) → x ≡ suc p → y ≡ suc q → (Joins c d u v p q → P (far d c p) (far d c q) → ⊥) → Seeking c d P u v x (lastBelow (Key v) q)
+    pub seek-next :
+        (p q : ℕ) → x ≡ suc p → y ≡ suc q → (Joins c d u v p q → P (far d c p) (far d c q) → ⊥) →
+        Seeking c d P u v x (lastBelow (Key v) q)
     seek-next p q e f none =
         let h = k .on₂ .high in
         record {
@@ -107,7 +109,9 @@ module _ (c : Coder) (d : Direction) (sound : Sound c) where
       edge = λ p q f g. absurd (omega arith);
     }
 
-    pub seek-found : (e : Edge) → e .x ≡ x → e .y ≡ y → 0 < y → ((p q : ℕ) → x ≡ suc p → y ≡ suc q → Joins c d u v p q × P (far d c p) (far d c q)) → Sought c d P u v e
+    pub seek-found :
+        (e : Edge) → e .x ≡ x → e .y ≡ y → 0 < y →
+        ((p q : ℕ) → x ≡ suc p → y ≡ suc q → Joins c d u v p q × P (far d c p) (far d c q)) → Sought c d P u v e
     seek-found e f g l h = record {
       seeking = rw (f, g) k;
       found = λ m. omega arith;
@@ -116,7 +120,8 @@ module _ (c : Coder) (d : Direction) (sound : Sound c) where
 
 -- ---- the same on the arrays
 
-module _ {c : Coder} {d : Direction} {last previous output far′ : List ℕ} (arrays : ArraysOf c d last previous output far′) {P : ℕ → ℕ → Type 0} {u v x y : ℕ} (k : Seeking c d P u v x y) where
+module _ {c : Coder} {d : Direction} {last previous output far′ : List ℕ} (arrays : ArraysOf c d last previous output far′)
+    {P : ℕ → ℕ → Type 0} {u v x y : ℕ} (k : Seeking c d P u v x y) where
   next-first : {x′ : ℕ} → 0 < x → x′ ≡ getD previous (x - 1) 0 → x′ ≡ lastBelow (Key c d (arrays .sound) u) (x - 1)
   next-first l e = e ∙ previous-is c d (arrays .sound) arrays u (x - 1) (k .on₁ .entry (x - 1) (omega arith))
 
@@ -140,7 +145,9 @@ module _ {c : Coder} {d : Direction} {last previous output far′ : List ℕ} (a
       rw (next-first l e, f ∙ last-is c d (arrays .sound) arrays v (omega arith))
       (seek-row c d (arrays .sound) P k (x - 1) (omega arith) z)
 
-  pub edge-step : {y′ : ℕ} → 0 < x → 0 < y → (Joins c d u v (x - 1) (y - 1) → P (far d c (x - 1)) (far d c (y - 1)) → ⊥) → y′ ≡ getD previous (y - 1) 0 → Seeking c d P u v x y′
+  pub edge-step :
+      {y′ : ℕ} → 0 < x → 0 < y → (Joins c d u v (x - 1) (y - 1) → P (far d c (x - 1)) (far d c (y - 1)) → ⊥) →
+      y′ ≡ getD previous (y - 1) 0 → Seeking c d P u v x y′
   edge-step l m none e = rw (next-second m e) (seek-next c d (arrays .sound) P k (x - 1) (y - 1) (omega arith) (omega arith) none)
 
   -- the far ends of the entries at which the search stands are states
@@ -157,7 +164,8 @@ module _ {c : Coder} {d : Direction} {last previous output far′ : List ℕ} (a
       rw (arrays .far-is) (omega (arith, far-below c (arrays .sound) d (y - 1) (e .0)))
 
 -- with the depths of a square, and the test of an edge
-module _ {c : Coder} {d : Direction} {last previous output far′ : List ℕ} (arrays : ArraysOf c d last previous output far′) (square : List (List ℕ)) (n : ℕ) {u v x y : ℕ} (k : Seeking c d (Above square n) u v x y) where
+module _ {c : Coder} {d : Direction} {last previous output far′ : List ℕ} (arrays : ArraysOf c d last previous output far′)
+    (square : List (List ℕ)) (n : ℕ) {u v x y : ℕ} (k : Seeking c d (Above square n) u v x y) where
   abbrev test : Bool
   test = both (eqb (getD output (x - 1) 0) (getD output (y - 1) 0)) (ltb n (at square (getD far′ (x - 1) 0) (getD far′ (y - 1) 0)))
 
@@ -171,6 +179,7 @@ module _ {c : Coder} {d : Direction} {last previous output far′ : List ℕ} (a
       seek-found c d (arrays .sound) (Above square n) k _ refl refl m (λ p q f g.
       let i : x - 1 ≡ p = omega arith in
       let j : y - 1 ≡ q = omega arith in (
-        seek-joins c d (arrays .sound) (Above square n) k p q f g (rw (arrays .output-is, i, j) at (eqb-true (getD output (x - 1) 0) (getD output (y - 1) 0) (b .0))),
+        seek-joins c d (arrays .sound) (Above square n) k p q f g
+            (rw (arrays .output-is, i, j) at (eqb-true (getD output (x - 1) 0) (getD output (y - 1) 0) (b .0))),
         rw (arrays .far-is, i, j) at (ltb-true n (at square (getD far′ (x - 1) 0) (getD far′ (y - 1) 0)) (b .1)),
       ))
