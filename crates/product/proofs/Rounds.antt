@@ -120,7 +120,9 @@ module _ (c : Coder) (d : Direction) (flags : List ℕ) (sound : Sound c) (k : �
     pub left : (u v : ℕ) → u < 16 → v < 16 → a ≤ 16 * u + v → RightTo (λ m. L m u v) k (at square u v)
     pub sought : (u v : ℕ) → u < 16 → v < 16 → 16 * u + v < a → at square u v ≡ 255 → Sought c d (L k) u v (edgeAt xs ys u v)
     pub edge : (u v : ℕ) → u < 16 → v < 16 → 16 * u + v < a → at square u v ≡ 255 → 0 < edgeAt xs ys u v .x
-    pub seeking : (u v : ℕ) → u < 16 → v < 16 → a ≤ 16 * u + v → at square u v ≡ 255 → Seeking c d (L k) u v (edgeAt xs ys u v .x) (edgeAt xs ys u v .y)
+    pub seeking :
+        (u v : ℕ) → u < 16 → v < 16 → a ≤ 16 * u + v → at square u v ≡ 255 →
+        Seeking c d (L k) u v (edgeAt xs ys u v .x) (edgeAt xs ys u v .y)
     pub changed : b ≡ true → Some square (suc k)
     pub unchanged : b ≡ false → (u v : ℕ) → u < 16 → v < 16 → 16 * u + v < a → at square u v ≡ suc k → ⊥
 
@@ -147,7 +149,8 @@ module _ (c : Coder) (d : Direction) (flags : List ℕ) (sound : Sound c) (k : �
 
   -- one place more; the other places stay
   module _ {a : ℕ} {square square′ : List (List ℕ)} {xs ys xs′ ys′ : List ℕ} {b b′ : Bool} (r : InRound a square xs ys b)
-      (shape : Square square′) (kept : Kept xs′ ys′) (other : (s t : ℕ) → s < 16 → t < 16 → (16 * s + t ≡ a → ⊥) → at square′ s t ≡ at square s t)
+      (shape : Square square′) (kept : Kept xs′ ys′)
+      (other : (s t : ℕ) → s < 16 → t < 16 → (16 * s + t ≡ a → ⊥) → at square′ s t ≡ at square s t)
       (edges : (s t : ℕ) → (16 * s + t ≡ a → ⊥) → edgeAt xs′ ys′ s t ≡ edgeAt xs ys s t)
       (seen : Seen (a / 16) (a % 16) square′ xs′ ys′ b b′) where
     row : (s t : ℕ) → t < 16 → 16 * s + t ≡ a → (s ≡ a / 16) × (t ≡ a % 16)
@@ -171,7 +174,8 @@ module _ (c : Coder) (d : Direction) (flags : List ℕ) (sound : Sound c) (k : �
         | no e ↦ subst (λ (g : Edge). 0 < g .x) (sym (edges s t e)) (r .edge s t l m (omega arith) (sym (other s t l m e) ∙ f))
       ];
       seeking = λ s t l m n f. let e : 16 * s + t ≡ a → ⊥ = λ e. omega arith in
-          subst (λ (g : Edge). Seeking c d (L k) s t (g .x) (g .y)) (sym (edges s t e)) (r .seeking s t l m (omega arith) (sym (other s t l m e) ∙ f));
+          subst (λ (g : Edge). Seeking c d (L k) s t (g .x) (g .y)) (sym (edges s t e))
+          (r .seeking s t l m (omega arith) (sym (other s t l m e) ∙ f));
       changed = seen .changed;
       unchanged = λ g s t l m n f. let h = seen .unchanged g in elim (ℕ-discrete (16 * s + t) a) [
         | yes e ↦ let z = row s t m e in h .1 (rw (z .0, z .1) at f)
@@ -250,7 +254,9 @@ module _ (c : Coder) (d : Direction) (flags : List ℕ) (sound : Sound c) (k : �
             let y-some = found .found l in
             let h = sought-map level-above above-level found .edge (x - 1) (y - 1) (omega arith) (omega arith) in
             round-place r (r .shape) kept′ (λ s t l m e. refl) edge-other (record {
-              right = right-stands here (λ m. level-fall S d m (a / 16) (a % 16)) right-here low stands (edge-level (a / 16) (a % 16) (x - 1) (y - 1) level-here (h .0) (h .1));
+              right =
+                  right-stands here (λ m. level-fall S d m (a / 16) (a % 16)) right-here low stands
+                  (edge-level (a / 16) (a % 16) (x - 1) (y - 1) level-here (h .0) (h .1));
               sought = λ e. sought-here;
               edge = λ e. subst (λ (g : Edge). 0 < g .x) (sym edge-here) l;
               changed = r .changed;
@@ -264,7 +270,10 @@ module _ (c : Coder) (d : Direction) (flags : List ℕ) (sound : Sound c) (k : �
             round-place r (put-square (r .shape) (a / 16) (a % 16) (k + 1) (omega arith) (omega arith)) kept′
             (λ s t l m e. put-other (r .shape) (a / 16) (a % 16) (k + 1) (omega arith) (omega arith) s t (λ f g. e (omega arith)))
             edge-other (record {
-              right = rw same (right-falls here (λ m. level-fall S d m (a / 16) (a % 16)) right-here low stands (none-level (a / 16) (a % 16) y (rw z at (sought-map level-above above-level found .seeking))));
+              right =
+                  rw same
+                  (right-falls here (λ m. level-fall S d m (a / 16) (a % 16)) right-here low stands
+                  (none-level (a / 16) (a % 16) y (rw z at (sought-map level-above above-level found .seeking))));
               sought = λ e. absurd (omega arith);
               edge = λ e. absurd (omega arith);
               changed = λ e. record { u = a / 16; v = a % 16; row = omega arith; column = omega arith; is = same };
@@ -273,7 +282,9 @@ module _ (c : Coder) (d : Direction) (flags : List ℕ) (sound : Sound c) (k : �
 
   -- ---- the end of the round: from the row of N on nothing stands
 
-  pub round-end : {a : ℕ} {square : List (List ℕ)} {xs ys : List ℕ} {b : Bool} → InRound a square xs ys b → a ≡ 16 * c .states → Rounded c d flags k square xs ys b
+  pub round-end :
+      {a : ℕ} {square : List (List ℕ)} {xs ys : List ℕ} {b : Bool} → InRound a square xs ys b → a ≡ 16 * c .states →
+      Rounded c d flags k square xs ys b
   round-end {a} {square} {xs} {ys} {b} r e = record {
     after = record {
       shape = r .shape;
@@ -295,7 +306,11 @@ module _ (c : Coder) (d : Direction) (flags : List ℕ) (sound : Sound c) (k : �
       yes′ = r .changed;
       no′ = λ f s. elim (decLt (16 * s .u + s .v) a) [
         | yes n ↦ r .unchanged f (s .u) (s .v) (s .row) (s .column) n (s .is)
-        | no n ↦ absurd (omega (arith, s .is, r .left (s .u) (s .v) (s .row) (s .column) (omega arith) .shape (past (s .u) (s .v) (s .row) (s .column) (omega arith))))
+        | no n ↦ absurd (omega (
+          arith,
+          s .is,
+          r .left (s .u) (s .v) (s .row) (s .column) (omega arith) .shape (past (s .u) (s .v) (s .row) (s .column) (omega arith)),
+        ))
       ];
     };
   }
