@@ -82,7 +82,9 @@ module _ (c : Coder) (d : Direction) (flags : List ℕ) (sound : Sound c) where
     right-start : (u v : ℕ) → u < 16 → v < 16 → RightTo (λ m. L m u v) 0 (at square u v)
     right-start u v l m = go (both (startFlag (c .states) flags u) (startFlag (c .states) flags v)) refl
       where
-        go : (b : Bool) → both (startFlag (c .states) flags u) (startFlag (c .states) flags v) ≡ b → RightTo (λ m. L m u v) 0 (at square u v)
+        go :
+            (b : Bool) → both (startFlag (c .states) flags u) (startFlag (c .states) flags v) ≡ b →
+            RightTo (λ m. L m u v) 0 (at square u v)
         go true e =
             let x : at square u v ≡ 255 = h .is u v l m ∙ rw e in
             let b = both-true (startFlag (c .states) flags u) (startFlag (c .states) flags v) e in
@@ -96,18 +98,25 @@ module _ (c : Coder) (d : Direction) (flags : List ℕ) (sound : Sound c) where
             let x : at square u v ≡ 0 = h .is u v l m ∙ rw e in
             record {
               stands = λ k n s. absurd (omega arith);
-              below = λ k n p. let z : k ≡ 0 = omega arith in let q : L 0 u v = rw z at p in absurd (true-false (rw (start-flag u (q .0), start-flag v (q .1))) e);
+              below = λ k n p.
+                  let z : k ≡ 0 = omega arith in
+                  let q : L 0 u v = rw z at p in
+                  absurd (true-false (rw (start-flag u (q .0), start-flag v (q .1))) e);
               shape = λ s. omega arith;
               high = omega arith;
             }
 
-    module _ {last previous output far′ xs ys : List ℕ} (arrays : ArraysOf c d last previous output far′) (f : FirstEdges last (c .states) xs ys) where
+    module _ {last previous output far′ xs ys : List ℕ} (arrays : ArraysOf c d last previous output far′)
+        (f : FirstEdges last (c .states) xs ys) where
       seeking-start : (u v : ℕ) → u < c .states → v < 16 → Seeking c d (L 0) u v (edgeAt xs ys u v .x) (edgeAt xs ys u v .y)
       seeking-start u v l m =
-          rw (f .first u v l m ∙ last-is c d sound arrays u (let n = sound .states-high in omega arith), f .second u v l m ∙ last-is c d sound arrays v (omega arith))
+          let n = sound .states-high in
+          let first = f .first u v l m ∙ last-is c d sound arrays u (omega arith) in
+          let second = f .second u v l m ∙ last-is c d sound arrays v (omega arith) in
+          rw (first, second)
           record {
             column = m;
-            on₁ = chain-last c d sound u 256 (let n = sound .states-high in omega arith);
+            on₁ = chain-last c d sound u 256 (omega arith);
             on₂ = chain-last c d sound v 256 (omega arith);
             none-before = record {
               first = λ p q j s. last-above _ p 256 (has-key _ _ _ u p (j .entry₁) (j .near₁)) (entry-below c sound p (j .entry₁));
@@ -125,7 +134,9 @@ module _ (c : Coder) (d : Direction) (flags : List ℕ) (sound : Sound c) where
 
   -- ---- from one round to the next
 
-  pub before-next : {k : ℕ} {square : List (List ℕ)} {xs ys : List ℕ} → k < 254 → After c d flags k square xs ys → Before c d flags (k + 1) square xs ys
+  pub before-next :
+      {k : ℕ} {square : List (List ℕ)} {xs ys : List ℕ} → k < 254 → After c d flags k square xs ys →
+      Before c d flags (k + 1) square xs ys
   before-next {k} low r =
       rw (add-one k)
       record {
@@ -136,7 +147,9 @@ module _ (c : Coder) (d : Direction) (flags : List ℕ) (sound : Sound c) where
       }
 
   -- a round that changed something was not past N (N + 1) / 2
-  pub changed-low : {k : ℕ} {square : List (List ℕ)} {xs ys : List ℕ} → After c d flags k square xs ys → Some square (suc k) → k < pairs (c .states)
+  pub changed-low :
+      {k : ℕ} {square : List (List ℕ)} {xs ys : List ℕ} → After c d flags k square xs ys → Some square (suc k) →
+      k < pairs (c .states)
   changed-low {k} r s =
       let h = r .right (s .u) (s .v) (s .row) (s .column) in
       let e = s .is in
@@ -151,7 +164,8 @@ module _ (c : Coder) (d : Direction) (flags : List ℕ) (sound : Sound c) where
 
   -- ---- the last round
 
-  module _ {k : ℕ} {square : List (List ℕ)} {xs ys : List ℕ} (low : k ≤ pairs (c .states)) (r : After c d flags k square xs ys) (none : Some square (suc k) → ⊥) where
+  module _ {k : ℕ} {square : List (List ℕ)} {xs ys : List ℕ} (low : k ≤ pairs (c .states)) (r : After c d flags k square xs ys)
+      (none : Some square (suc k) → ⊥) where
     k-high : k ≤ 136
     k-high = omega (arith, pairs-high (c .states) (sound .states-high))
 
@@ -179,7 +193,8 @@ module _ (c : Coder) (d : Direction) (flags : List ℕ) (sound : Sound c) where
     depth : (u v : ℕ) → u < 16 → v < 16 → Depth (λ m. L m u v) (at square u v)
     depth u v l m =
         let x = r .right u v l m in
-        let ever : at square u v ≡ 255 → (n : ℕ) → L n u v = λ e. endless S d k settled u v (x .stands k (omega arith) (omega (arith, k-high))) in
+        let ever : at square u v ≡ 255 → (n : ℕ) → L n u v = λ e.
+        endless S d k settled u v (x .stands k (omega arith) (omega (arith, k-high))) in
         record {
           stands = λ n s. elim (decLt (at square u v) 255) [
             | yes f ↦ x .stands n (omega (arith, value u v l m f)) s
@@ -190,7 +205,9 @@ module _ (c : Coder) (d : Direction) (flags : List ℕ) (sound : Sound c) where
           high = x .high;
         }
 
-    edge-of : (u v p q : ℕ) → u < 16 → v < 16 → at square u v ≡ 255 → edgeAt xs ys u v .x ≡ suc p → edgeAt xs ys u v .y ≡ suc q → Joins c d u v p q × (at square (far d c p) (far d c q) ≡ 255)
+    edge-of :
+        (u v p q : ℕ) → u < 16 → v < 16 → at square u v ≡ 255 → edgeAt xs ys u v .x ≡ suc p → edgeAt xs ys u v .y ≡ suc q →
+        Joins c d u v p q × (at square (far d c p) (far d c q) ≡ 255)
     edge-of u v p q l m e f g =
         let j = r .sought u v l m e .edge p q f g in
         let b = level-high k _ _ (j .1) in
