@@ -56,7 +56,9 @@ unfolding allWords
 words-at i zero p e [] l m = e
 words-at i zero p e (x ∷ xs) l m = absurd (omega arith)
 words-at i (suc n) p e [] l m = absurd (omega arith)
-words-at i (suc n) p e (x ∷ xs) l m = words-at i n (λ xs. p (x ∷ xs)) (all-at i (λ x. allWords i n (λ xs. p (x ∷ xs))) e x (l .0)) xs (l .1) (omega arith)
+words-at i (suc n) p e (x ∷ xs) l m =
+    let h = all-at i (λ x. allWords i n (λ xs. p (x ∷ xs))) e x (l .0) in
+    words-at i n (λ xs. p (x ∷ xs)) h xs (l .1) (omega arith)
 
 record Word (i n : ℕ) (p : List ℕ → Bool) : Type 0 where
   xs : List ℕ
@@ -84,28 +86,35 @@ module _ (M : Machine) (b a : ℕ) where
   agree s t xs ys = pick (sameList (outs M s xs) (outs M t ys)) (eqb (getD xs b 0) (getD ys b 0)) true
 
   unfoldable pub worksTest : Bool
-  worksTest = allBelow (M .states) (λ s. allBelow (M .states) (λ t. allWords (M .inputs) (b + 1 + a) (λ xs. allWords (M .inputs) (b + 1 + a) (λ ys. agree s t xs ys))))
+  worksTest =
+      allBelow (M .states) (λ s. allBelow (M .states) (λ t.
+      allWords (M .inputs) (b + 1 + a) (λ xs. allWords (M .inputs) (b + 1 + a) (λ ys. agree s t xs ys))))
 
   pub works-test : worksTest ≡ true → Works (anyState M) b a
   unfolding worksTest agree
   works-test e = works↔same-letter M b a .1 (λ s t xs ys p q g h k l f.
-      let w = words-at (M .inputs) (b + 1 + a) (λ ys. agree s t xs ys)
-      (words-at (M .inputs) (b + 1 + a) (λ xs. allWords (M .inputs) (b + 1 + a) (λ ys. agree s t xs ys))
-      (all-at (M .states) (λ t. allWords (M .inputs) (b + 1 + a) (λ xs. allWords (M .inputs) (b + 1 + a) (λ ys. agree s t xs ys)))
-      (all-at (M .states) (λ s. allBelow (M .states) (λ t. allWords (M .inputs) (b + 1 + a) (λ xs. allWords (M .inputs) (b + 1 + a) (λ ys. agree s t xs ys)))) e s p) t q)
-      xs g k) ys h l in
+      let seconds : ℕ → ℕ → List ℕ → Bool = λ s t xs. allWords (M .inputs) (b + 1 + a) (λ ys. agree s t xs ys) in
+      let runs : ℕ → ℕ → Bool = λ s t. allWords (M .inputs) (b + 1 + a) (λ xs. seconds s t xs) in
+      let x = all-at (M .states) (λ s. allBelow (M .states) (λ t. runs s t)) e s p in
+      let y = all-at (M .states) (λ t. runs s t) x t q in
+      let z = words-at (M .inputs) (b + 1 + a) (λ xs. seconds s t xs) y xs g k in
+      let w = words-at (M .inputs) (b + 1 + a) (λ ys. agree s t xs ys) z ys h l in
       let same : sameList (outs M s xs) (outs M t ys) ≡ true = rw f (list-same (outs M t ys)) in
       eqb-true _ _ (rw same at w))
 
   pub fails-test : worksTest ≡ false → Works (anyState M) b a → ⊥
   unfolding worksTest agree
   fails-test e f =
-      let p = all-false (M .states) (λ s. allBelow (M .states) (λ t. allWords (M .inputs) (b + 1 + a) (λ xs. allWords (M .inputs) (b + 1 + a) (λ ys. agree s t xs ys)))) e in
-      let q = all-false (M .states) (λ t. allWords (M .inputs) (b + 1 + a) (λ xs. allWords (M .inputs) (b + 1 + a) (λ ys. agree (p .0) t xs ys))) (p .2) in
-      let x = words-false (M .inputs) (b + 1 + a) (λ xs. allWords (M .inputs) (b + 1 + a) (λ ys. agree (p .0) (q .0) xs ys)) (q .2) in
+      let seconds : ℕ → ℕ → List ℕ → Bool = λ s t xs. allWords (M .inputs) (b + 1 + a) (λ ys. agree s t xs ys) in
+      let runs : ℕ → ℕ → Bool = λ s t. allWords (M .inputs) (b + 1 + a) (λ xs. seconds s t xs) in
+      let p = all-false (M .states) (λ s. allBelow (M .states) (λ t. runs s t)) e in
+      let q = all-false (M .states) (λ t. runs (p .0) t) (p .2) in
+      let x = words-false (M .inputs) (b + 1 + a) (λ xs. seconds (p .0) (q .0) xs) (q .2) in
       let y = words-false (M .inputs) (b + 1 + a) (λ ys. agree (p .0) (q .0) (x .xs) ys) (x .fails) in
       let d = differs (sameList (outs M (p .0) (x .xs)) (outs M (q .0) (y .xs))) (eqb (getD (x .xs) b 0) (getD (y .xs) b 0)) (y .fails) in
-      eqb-false _ _ (d .1) (works↔same-letter M b a .0 f (p .0) (q .0) (x .xs) (y .xs) (p .1) (q .1) (x .below) (y .below) (x .long) (y .long) (same-list _ _ (d .0)))
+      eqb-false _ _ (d .1)
+      (works↔same-letter M b a .0 f (p .0) (q .0) (x .xs) (y .xs) (p .1) (q .1) (x .below) (y .below) (x .long) (y .long)
+      (same-list _ _ (d .0)))
 
 -- ---- the least window: it works, and none that comes before it does
 
@@ -125,14 +134,17 @@ module _ (M : Machine) (b a : ℕ) where
         works = works-test M b a (z .0);
         least = λ b′ a′ f.
             let w : Works (anyState M) ((b′ + a′) - a′) a′ = let g : b′ ≡ (b′ + a′) - a′ = omega arith in rw g at f in
-            let t : (l : b′ + a′ < b + a + 1) → later (b′ + a′) a′ ≡ true = λ l. all-at (b′ + a′ + 1) (later (b′ + a′)) (all-at (b + a + 1) (λ n. allBelow (n + 1) (later n)) (z .1) (b′ + a′) l) a′ (omega arith) in
+            let t : (l : b′ + a′ < b + a + 1) → later (b′ + a′) a′ ≡ true = λ l.
+            let h = all-at (b + a + 1) (λ n. allBelow (n + 1) (later n)) (z .1) (b′ + a′) l in
+            all-at (b′ + a′ + 1) (later (b′ + a′)) h a′ (omega arith) in
             record {
               fewer = elim (decLt (b′ + a′) (b + a)) [
                 | yes l ↦ absurd (fails-test M (b′ + a′ - a′) a′ (not-true _ (rw (lt-ltb (b′ + a′) (b + a) l) at (t (omega arith)))) w)
                 | no l ↦ omega arith
               ];
               tie = λ g. elim (decLt a′ a) [
-                | yes l ↦ absurd (fails-test M (b′ + a′ - a′) a′ (not-true _ (rw (le-ltb (b′ + a′) (b + a) (omega arith), lt-ltb a′ a l) at (t (omega arith)))) w)
+                | yes l ↦ (let h = rw (le-ltb (b′ + a′) (b + a) (omega arith), lt-ltb a′ a l) at (t (omega arith)) in
+                    absurd (fails-test M (b′ + a′ - a′) a′ (not-true _ h) w))
                 | no l ↦ omega arith
               ];
             };
@@ -210,11 +222,15 @@ module _ (M : Machine) (p : LoopedPair) where
 
 module _ (M : Machine) where
   unfoldable pub differentTest : Bool
-  differentTest = allBelow (M .states) (λ s. allBelow (M .inputs) (λ i. allBelow (M .inputs) (λ j. pick (eqb i j) true (not (eqb (M .out s i) (M .out s j))))))
+  differentTest =
+      allBelow (M .states) (λ s. allBelow (M .inputs) (λ i. allBelow (M .inputs) (λ j.
+      pick (eqb i j) true (not (eqb (M .out s i) (M .out s j))))))
 
   pub different-test : differentTest ≡ true → (s i j : ℕ) → s < M .states → i < M .inputs → j < M .inputs → i ≢ j → M .out s i ≢ M .out s j
   unfolding differentTest
   different-test e s i j l m n d =
       let row : ℕ → ℕ → ℕ → Bool = λ s i j. pick (eqb i j) true (not (eqb (M .out s i) (M .out s j))) in
-      let w = all-at (M .inputs) (row s i) (all-at (M .inputs) (λ i. allBelow (M .inputs) (row s i)) (all-at (M .states) (λ s. allBelow (M .inputs) (λ i. allBelow (M .inputs) (row s i))) e s l) i m) j n in
+      let u = all-at (M .states) (λ s. allBelow (M .inputs) (λ i. allBelow (M .inputs) (row s i))) e s l in
+      let v = all-at (M .inputs) (λ i. allBelow (M .inputs) (row s i)) u i m in
+      let w = all-at (M .inputs) (row s i) v j n in
       eqb-false _ _ (not-true _ (rw (ne-eqb i j d) at w))
