@@ -73,7 +73,8 @@ abbrev start : tie.After-wide2 Inv-loop μ-loop → tie.Start Inv-loop μ-loop
 start c = turn c .before .before
 
 module _ (c : tie.After-wide2 Inv-loop μ-loop) (m : Coder) (way : Direction) (flags : List ℕ)
-    (arrays : ArraysOf m way (now (start c .args .last)) (now (start c .args .previous)) (now (start c .args .output)) (now (start c .args .far)))
+    (arrays : ArraysOf m way (now (start c .args .last)) (now (start c .args .previous)) (now (start c .args .output))
+    (now (start c .args .far)))
     (states-is : start c .args .states ≡ m .states) (low : start c .args .k < 254)
     (before : Before m way flags (start c .args .k) (now (start c .args .d)) (now (start c .args .xs)) (now (start c .args .ys))) where
   -- what is sought from the edge kept for the pair on
