@@ -2,7 +2,7 @@
 use crate::check;
 
 // Coder C has one state and every output 0.
-pub fn coder_c() {
+pub(crate) fn coder_c() {
     let c = b"\x01\x00\x07\x01\x02\x01\x00\x00\x00\x00";
     check(b"C", c, 0, 0, 1, 0, 0, 1, b"\x00\x00\x00\x01\x00\x00");
     check(
@@ -76,7 +76,7 @@ pub fn coder_c() {
 }
 
 // Coder A's output is the letter in state 0, and the other letter in state 1; letter 1 changes its state.
-pub fn coder_a() {
+pub(crate) fn coder_a() {
     let a = b"\x01\x00\x0b\x02\x02\x02\x00\x00\x01\x01\x01\x01\x00\x00";
     check(
         b"A, loop closed in the first run only",
@@ -125,7 +125,7 @@ pub fn coder_a() {
 }
 
 // A letter leads to the state of its number. The outputs are 0, or in `states` the number of the state that is left.
-pub fn last_letter() {
+pub(crate) fn last_letter() {
     let d = b"\x01\x00\x0b\x02\x02\x01\x00\x00\x01\x00\x00\x00\x01\x00";
     let states = b"\x01\x00\x0b\x02\x02\x02\x00\x00\x01\x00\x00\x01\x01\x01";
     check(

@@ -1,7 +1,7 @@
 // Calls that are refused, with one fault and with two.
 use crate::check;
 
-pub fn refused() {
+pub(crate) fn refused() {
     let a = b"\x01\x00\x0b\x02\x02\x02\x00\x00\x01\x01\x01\x01\x00\x00";
     let c = b"\x01\x00\x07\x01\x02\x01\x00\x00\x00\x00";
     let bad = b"\x01\x00\x07\x01\x02\x01\x01\x00\x00\x00";
@@ -123,7 +123,7 @@ pub fn refused() {
 }
 
 // The lower number decides.
-pub fn two_faults() {
+pub(crate) fn two_faults() {
     let a = b"\x01\x00\x0b\x02\x02\x02\x00\x00\x01\x01\x01\x01\x00\x00";
     let bad = b"\x01\x00\x07\x01\x02\x01\x01\x00\x00\x00";
     check(

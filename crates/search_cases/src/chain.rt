@@ -110,7 +110,7 @@ fn low(n: usize) -> u8 {
 }
 
 // The file of one kind.
-pub fn file(kind: usize) -> [u8; 518] {
+pub(crate) fn file(kind: usize) -> [u8; 518] {
     let mut file = [0u8; 518];
     file[0] = 1;
     file[1] = 2;
