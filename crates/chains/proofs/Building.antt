@@ -33,7 +33,9 @@ module _ (keys : List ℕ) (n i : ℕ) where
     previous-is = λ q l e. absurd (omega arith);
   }
 
-  step-last : (k p : ℕ) (b : Bool) → hasKey keys n i k p ≡ b → lastBelow (hasKey keys n i k) (p + 1) ≡ pick b (p + 1) (lastBelow (hasKey keys n i k) p)
+  step-last :
+      (k p : ℕ) (b : Bool) → hasKey keys n i k p ≡ b →
+      lastBelow (hasKey keys n i k) (p + 1) ≡ pick b (p + 1) (lastBelow (hasKey keys n i k) p)
   unfolding lastBelow
   step-last k p b e = rw (add-one, e)
 
@@ -74,7 +76,9 @@ module _ (keys : List ℕ) (n i : ℕ) where
 
   pub below-all : (p : ℕ) (c : Chain) → p ≡ 16 * n → n ≤ 16 → ChainedBelow p (c .last) (c .previous) → Chained keys n i c
   below-all p c e l b = record {
-    last = λ k lk. b .last-is k lk ∙ sym (last-skip (hasKey keys n i k) p 256 (omega arith) (λ q lq _. no-key keys n i k q (past-states n i q (omega arith))));
+    last =
+        λ k lk. b .last-is k lk ∙ sym
+        (last-skip (hasKey keys n i k) p 256 (omega arith) (λ q lq _. no-key keys n i k q (past-states n i q (omega arith))));
     previous = λ q lq f. elim (decLt q p) [
       | yes m ↦ b .previous-is q m f
       | no m ↦ absurd (true-false f (past-states n i q (omega arith)))

@@ -61,7 +61,9 @@ module _ (test : ℕ → Bool) where
     over-last acc zero = refl
     over-last acc (suc p) = go (test p) refl (over-last acc p)
       where
-        go : (b : Bool) → test p ≡ b → over test f acc p ≡ over test f acc (lastBelow test p) → over test f acc (suc p) ≡ over test f acc (lastBelow test (suc p))
+        go :
+            (b : Bool) → test p ≡ b → over test f acc p ≡ over test f acc (lastBelow test p) →
+            over test f acc (suc p) ≡ over test f acc (lastBelow test (suc p))
         go true e h = ap (over test f acc) (sym (last-here p e))
         go false e h = rw e h
 

@@ -45,7 +45,9 @@ outs-letters M n h s (x ∷ xs) = (h s x, outs-letters M n h (M .next s x) xs)
 
 -- ---- the report of a search that found a window
 
-window-report : (f letters letters′ : List ℕ) (w : Window) → SearchPromise f letters (Found (Least w)) letters′ → WindowReport (settingOf f) w letters letters′
+window-report :
+    (f letters letters′ : List ℕ) (w : Window) → SearchPromise f letters (Found (Least w)) letters′ →
+    WindowReport (settingOf f) w letters letters′
 window-report f letters letters′ w p = go (searchRefusal f (leb wanted (length letters))) p
   where
     -- the verdict of the promise is the one that was found
@@ -53,7 +55,10 @@ window-report f letters letters′ w p = go (searchRefusal f (leb wanted (length
     of (Least v) e s = let z : w ≡ v = cc in rw z s
     of (NoDecoder q) e s = let z : _≡_ {A = ℕ} 0 1 = cc in absurd (omega arith)
 
-    go : (k : ℕ) → upon k (λ j. RefusedSearch j (Found (Least w)) letters letters′) (FoundVerdict (settingOf f) (Found (Least w)) letters letters′) → WindowReport (settingOf f) w letters letters′
+    go :
+        (k : ℕ) →
+        upon k (λ j. RefusedSearch j (Found (Least w)) letters letters′) (FoundVerdict (settingOf f) (Found (Least w)) letters letters′) →
+        WindowReport (settingOf f) w letters letters′
     go zero q = of (q .verdict) (q .is) (q .says)
     go (suc k) q = let e = q .is in let z : _≡_ {A = ℕ} 0 1 = cc in absurd (omega arith)
 
@@ -71,13 +76,19 @@ module _ (f : List ℕ) (s : ℕ) (xs : List ℕ) (file-ok : fileRefusal f ≡ 0
   unfolding sidesRefusal
   sides-ok b a l m = rw (file-ok, le-leb b 136 l, le-leb a 136 m)
 
-  string-ok : (b a : ℕ) (w before : List ℕ) → b ≤ 136 → a ≤ 136 → places (length w) b a ≤ length before → Letters (outputsOf f) w → stringRefusalIn f b a w before ≡ 0
+  string-ok :
+      (b a : ℕ) (w before : List ℕ) → b ≤ 136 → a ≤ 136 → places (length w) b a ≤ length before → Letters (outputsOf f) w →
+      stringRefusalIn f b a w before ≡ 0
   unfolding stringRefusal
   string-ok b a w before l m n h = rw (sides-ok b a l m, le-leb (places (length w) b a) (length before) n, letters-test (outputsOf f) w h)
 
   -- the letters that a run wrote
-  wrote : (before after : List ℕ) (r : RunResult) → length xs ≤ length before → RunPromise f s xs before r after → take (length xs) after ≡ outs (machineOf f) s xs
-  wrote before after r l p = rw (rw (not-refused before l) at (p .bytes)) (take-at (outs (machineOf f) s xs) (drop (length xs) before) (length xs) (length-outs (machineOf f) s xs))
+  wrote :
+      (before after : List ℕ) (r : RunResult) → length xs ≤ length before → RunPromise f s xs before r after →
+      take (length xs) after ≡ outs (machineOf f) s xs
+  wrote before after r l p =
+      rw (rw (not-refused before l) at (p .bytes))
+      (take-at (outs (machineOf f) s xs) (drop (length xs) before) (length xs) (length-outs (machineOf f) s xs))
 
   states-are : machineOf f .states ≡ statesOf f
   unfolding machineOf

@@ -66,7 +66,9 @@ test f (claimed.window b a) = leastTest (machineOf f) b a
 test f (claimed.no-decoder p) = validTest (machineOf f) p
 test f claimed.different-outputs = differentTest (machineOf f)
 test f (claimed.answer b w v) = both (ltb b (length w)) (sameAnswer (decoded (coderOf f) anyFlags w b) v)
-test f (claimed.table b a bytes) = both (eqb (length bytes) (tableSize (outputsOf f) b a)) (allBelow (length bytes) (λ k. eqb (getD bytes k 0) (entryByte f (b + 1 + a) b k)))
+test f (claimed.table b a bytes) =
+    both (eqb (length bytes) (tableSize (outputsOf f) b a))
+    (allBelow (length bytes) (λ k. eqb (getD bytes k 0) (entryByte f (b + 1 + a) b k)))
 test f (claimed.run s xs os e) = both (sameList (outs (machineOf f) s xs) os) (eqb (end (machineOf f) s xs) e)
 
 -- ---- from the test to the claim

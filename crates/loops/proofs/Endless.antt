@@ -70,7 +70,9 @@ module _ (c : Coder) (sound : Sound c) (flags : List ℕ) (d : Direction) {squar
       }
 
   -- both states of an endless pair are start states
-  pub endless-start : {a : ℕ} → Endless (c .states) square a → flagged (machineOfCoder c) flags .Start (a / 16) × flagged (machineOfCoder c) flags .Start (a % 16)
+  pub endless-start :
+      {a : ℕ} → Endless (c .states) square a →
+      flagged (machineOfCoder c) flags .Start (a / 16) × flagged (machineOfCoder c) flags .Start (a % 16)
   endless-start {a} e =
       let h = sound .states-high in
       found .depths .depth (a / 16) (a % 16) (omega (arith, e .row)) (omega arith) .endless (e .is) 0

@@ -22,7 +22,7 @@ use Rattle.search.specs.Search.{Says, PairReport}
 use Rattle.search.specs.declared.Verdict.{Verdict}
 use Rattle.search.specs.declared.Verdict.the-variants.{Least, NoDecoder}
 use Rattle.checker.proofs.Judging.{judges-same}
-use Rattle.lowhenita.specs.Layout.{withFields, verdictFields, numberOf}
+use Rattle.layout.specs.Layout.{withFields, verdictFields, numberOf}
 use Rattle.lowhenita.specs.Host.{RunHosted, BothStay, VerdictGiven, searchNumber, SearchHosted, decodeNumber, DecodeHosted, JudgementGiven, checkNumber, CheckHosted, AnswerGiven, windowNumber, WindowHosted, tableNumber, TableHosted}
 
 -- ---- the coder run

@@ -37,7 +37,7 @@ use Rattle.search.proofs.Files.{search-accepted}
 use Rattle.checker.specs.Check.{checkRefusal, CheckedRight, CheckPromise}
 use Rattle.checker.specs.declared.CheckResult.{CheckResult}
 use Rattle.checker.specs.declared.CheckResult.the-variants.{Refused as CheckRefused, Checked}
-use Rattle.lowhenita.specs.Layout.{withFields, verdictFields, numberOf}
+use Rattle.layout.specs.Layout.{withFields, verdictFields, numberOf}
 use Rattle.lowhenita.specs.Host.{roomy, runNumber, RunHosted, searchNumber, SearchHosted, decodeNumber, DecodeHosted, checkNumber, CheckHosted, windowNumber, WindowHosted, tableNumber, TableHosted}
 
 -- ---- the result buffer beside the others

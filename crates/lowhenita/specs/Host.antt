@@ -23,7 +23,7 @@ use Rattle.decoder.specs.Table.{EntryAt}
 use Rattle.search.specs.Search.{searchRefusal, wanted, Says}
 use Rattle.search.specs.declared.Verdict.{Verdict}
 use Rattle.checker.specs.Check.{checkRefusal}
-use Rattle.lowhenita.specs.Layout.{withFields, verdictFields, numberOf}
+use Rattle.layout.specs.Layout.{withFields, verdictFields, numberOf}
 
 -- The result buffer has at least 64 bytes; shorter is refusal 11, in its place among the refusals.
 abbrev pub roomy : List ℕ → Bool

@@ -1,3 +1,2 @@
 -- What the contracts of the calls from C cite.
-pub mod Layout
 pub mod Host

@@ -2,8 +2,6 @@
 ghost use Rattle.checker.specs.Check.{pairFrom};
 ghost use Rattle.lowhenita.specs.Host.{RunHosted, SearchHosted, DecodeHosted, CheckHosted, WindowHosted, TableHosted};
 
-pub mod inner; // inner.rt: what the calls share; no public calls
-
 // The bytes of the result buffer that each call wants.
 const RESULT: usize = 64;
 
@@ -25,7 +23,7 @@ pub extern "C" fn lowhenita_run(
     match r {
         coder::RunResult::Refused(k) => k,
         coder::RunResult::Done { count, end } => {
-            inner::fields::put_two(result, count, end);
+            layout::inner::put_two(result, count, end);
             0
         }
     }
@@ -44,7 +42,7 @@ pub extern "C" fn lowhenita_search(file: &[u8], letters: &mut [u8], result: &mut
     match r {
         search::SearchResult::Refused(k) => k,
         search::SearchResult::Found(v) => {
-            inner::fields::put_verdict(result, v);
+            layout::inner::put_verdict(result, v);
             0
         }
     }
@@ -69,7 +67,7 @@ pub extern "C" fn lowhenita_decode(
     match r {
         decoder::CountResult::Refused(k) => k,
         decoder::CountResult::Done { count } => {
-            inner::fields::put_one(result, count);
+            layout::inner::put_one(result, count);
             0
         }
     }
@@ -116,7 +114,7 @@ pub extern "C" fn lowhenita_check(
     match r {
         checker::CheckResult::Refused(k) => k,
         checker::CheckResult::Checked(valid) => {
-            inner::fields::put_one(result, inner::fields::yes_or_no(valid));
+            layout::inner::put_one(result, layout::inner::yes_or_no(valid));
             0
         }
     }
@@ -140,7 +138,7 @@ pub extern "C" fn lowhenita_window(
     match r {
         decoder::WindowResult::Refused(k) => k,
         decoder::WindowResult::Answered(a) => {
-            inner::fields::put_one(
+            layout::inner::put_one(
                 result,
                 coder::inner::bytes::number(pass::inner::answer_byte(a)),
             );
@@ -167,7 +165,7 @@ pub extern "C" fn lowhenita_table(
     match r {
         decoder::CountResult::Refused(k) => k,
         decoder::CountResult::Done { count } => {
-            inner::fields::put_one(result, count);
+            layout::inner::put_one(result, count);
             0
         }
     }

@@ -26,7 +26,9 @@ module _ {M : Machine} {P Q : ℕ → ℕ → Type 0} {u v : ℕ} where
 pub equal-nil : {M : Machine} {s t : ℕ} → EqualOutputs M 0 s t [] []
 equal-nil = record { letters₁ = tt; letters₂ = tt; length₁ = refl; length₂ = refl; outputs = refl }
 
-pub equal-cons : {M : Machine} {n s t i j u v : ℕ} {xs ys : List ℕ} → Edge M s t i j u v → EqualOutputs M n u v xs ys → EqualOutputs M (suc n) s t (i ∷ xs) (j ∷ ys)
+pub equal-cons :
+    {M : Machine} {n s t i j u v : ℕ} {xs ys : List ℕ} → Edge M s t i j u v → EqualOutputs M n u v xs ys →
+    EqualOutputs M (suc n) s t (i ∷ xs) (j ∷ ys)
 equal-cons e w =
     record {
       letters₁ = (e .below₁, w .letters₁);
@@ -39,7 +41,9 @@ equal-cons e w =
 pub equal-edge : {M : Machine} {n s t i j : ℕ} {xs ys : List ℕ} → EqualOutputs M n s t (i ∷ xs) (j ∷ ys) → Edge M s t i j (M .next s i) (M .next t j)
 equal-edge w = record { below₁ = w .letters₁ .0; below₂ = w .letters₂ .0; output = cc; to₁ = refl; to₂ = refl }
 
-pub equal-tail : {M : Machine} {n s t i j : ℕ} {xs ys : List ℕ} → EqualOutputs M (suc n) s t (i ∷ xs) (j ∷ ys) → EqualOutputs M n (M .next s i) (M .next t j) xs ys
+pub equal-tail :
+    {M : Machine} {n s t i j : ℕ} {xs ys : List ℕ} → EqualOutputs M (suc n) s t (i ∷ xs) (j ∷ ys) →
+    EqualOutputs M n (M .next s i) (M .next t j) xs ys
 equal-tail w =
     record {
       letters₁ = w .letters₁ .1;

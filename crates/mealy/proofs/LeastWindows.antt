@@ -59,7 +59,9 @@ fewest-letters = record {
 }
 
 -- no side of the least window is past the level where the levels of that side have settled
-pub least-sides : (S : Setting) → Closed S → (K L : ℕ) → Settled S back K → Settled S forward L → (b a : ℕ) → Least FewestLetters S b a → (b ≤ K) × (a ≤ L)
+pub least-sides :
+    (S : Setting) → Closed S → (K L : ℕ) → Settled S back K → Settled S forward L → (b a : ℕ) → Least FewestLetters S b a →
+    (b ≤ K) × (a ≤ L)
 least-sides S closed K L settledK settledL b a l =
     let p = l .least K a (works-settled-back S closed K settledK b a (l .works)) in
     let q = l .least b L (works-settled S closed L settledL b a (l .works)) in

@@ -16,7 +16,9 @@ use Rattle.mealy.proofs.Windows.{works-larger}
 
 -- ---- letters
 
-pub letters-append : (p : LoopedPair) (r : Run) (m n k place after : ℕ) → m + n ≡ k → place + m ≡ after → lettersFrom p r place k ≡ lettersFrom p r place m ++ lettersFrom p r after n
+pub letters-append :
+    (p : LoopedPair) (r : Run) (m n k place after : ℕ) → m + n ≡ k → place + m ≡ after →
+    lettersFrom p r place k ≡ lettersFrom p r place m ++ lettersFrom p r after n
 letters-append p r zero n k place after e f =
     let g : k ≡ n = omega arith in
     let h : place ≡ after = omega arith in

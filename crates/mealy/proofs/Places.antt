@@ -15,11 +15,15 @@ abbrev pub Edges : Machine → LoopedPair → (Run → ℕ → ℕ) → ℕ → 
 Edges M p σ n = (k : ℕ) → k < n → Edge M (σ first k) (σ second k) (letterAt p first k) (letterAt p second k) (σ first (suc k)) (σ second (suc k))
 
 module _ (M : Machine) (p : LoopedPair) (σ : Run → ℕ → ℕ) where
-  walk-from : (n place to : ℕ) → place + n ≡ to → Edges M p σ to → Walk M (σ first place) (σ second place) (lettersFrom p first place n) (lettersFrom p second place n) (σ first to) (σ second to)
+  walk-from :
+      (n place to : ℕ) → place + n ≡ to → Edges M p σ to →
+      Walk M (σ first place) (σ second place) (lettersFrom p first place n) (lettersFrom p second place n) (σ first to) (σ second to)
   walk-from zero place to e h = let f : place ≡ to = omega arith in rw f walk-nil
   walk-from (suc n) place to e h = walk-cons (h place (omega arith)) (walk-from n (suc place) to (omega arith) h)
 
-  pub places-walk : (n : ℕ) → Edges M p σ n → Walk M (σ first 0) (σ second 0) (lettersFrom p first 0 n) (lettersFrom p second 0 n) (σ first n) (σ second n)
+  pub places-walk :
+      (n : ℕ) → Edges M p σ n →
+      Walk M (σ first 0) (σ second 0) (lettersFrom p first 0 n) (lettersFrom p second 0 n) (σ first n) (σ second n)
   places-walk n h = walk-from n 0 n (omega arith) h
 
   -- the state of a run after n places

@@ -120,7 +120,9 @@ module _ (S : Setting) (closed : Closed S) where
       let z = edge-start e p q in
       (z .0, z .1, record { s = s; t = t; i = i; j = j; step = e; within = h })
 
-  pub back-along : (k n N s t : ℕ) (xs ys : List ℕ) → k + n ≡ N → Start s → Start t → Level S back k s t → EqualOutputs M n s t xs ys → Level S back N (end M s xs) (end M t ys)
+  pub back-along :
+      (k n N s t : ℕ) (xs ys : List ℕ) → k + n ≡ N → Start s → Start t → Level S back k s t → EqualOutputs M n s t xs ys →
+      Level S back N (end M s xs) (end M t ys)
   back-along k n N s t [] [] e p q h w = let r : k ≡ N = omega arith in rw r at h
   back-along k n N s t [] (y ∷ ys) e p q h w = absurd (omega arith)
   back-along k n N s t (x ∷ xs) [] e p q h w = absurd (omega arith)

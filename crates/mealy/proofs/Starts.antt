@@ -26,7 +26,9 @@ module _ (M : Machine) (C : ℕ → ℕ → Type 0) {A B : ℕ → Type 0} (to :
     forward-closed = v .forward-closed;
   }
 
-pub least-starts : (M : Machine) (C : ℕ → ℕ → Type 0) {A B : ℕ → Type 0} → ((s : ℕ) → A s → B s) → ((s : ℕ) → B s → A s) → (R : Relation) (b a : ℕ) → Least R (starting M C A) b a → Least R (starting M C B) b a
+pub least-starts :
+    (M : Machine) (C : ℕ → ℕ → Type 0) {A B : ℕ → Type 0} → ((s : ℕ) → A s → B s) → ((s : ℕ) → B s → A s) → (R : Relation) (b a : ℕ) →
+    Least R (starting M C A) b a → Least R (starting M C B) b a
 least-starts M C to from R b a l = record {
   works = works-starts M C from b a (l .works);
   least = λ b′ a′ f. l .least b′ a′ (works-starts M C to b′ a′ f);

@@ -18,7 +18,9 @@ pub record Walk (M : Machine) (s t : ℕ) (xs ys : List ℕ) (u v : ℕ) : Type 
 pub walk-nil : {M : Machine} {s t : ℕ} → Walk M s t [] [] s t
 walk-nil = record { equal = equal-nil; end₁ = refl; end₂ = refl }
 
-pub walk-cons : {M : Machine} {s t i j u v u′ v′ : ℕ} {xs ys : List ℕ} → Edge M s t i j u v → Walk M u v xs ys u′ v′ → Walk M s t (i ∷ xs) (j ∷ ys) u′ v′
+pub walk-cons :
+    {M : Machine} {s t i j u v u′ v′ : ℕ} {xs ys : List ℕ} → Edge M s t i j u v → Walk M u v xs ys u′ v′ →
+    Walk M s t (i ∷ xs) (j ∷ ys) u′ v′
 walk-cons e w = record { equal = equal-cons e (w .equal); end₁ = cc (e .to₁, w .end₁); end₂ = cc (e .to₂, w .end₂) }
 
 pub walk-tail : {M : Machine} {s t i j u v : ℕ} {xs ys : List ℕ} → Walk M s t (i ∷ xs) (j ∷ ys) u v → Walk M (M .next s i) (M .next t j) xs ys u v
@@ -26,7 +28,9 @@ walk-tail w = record { equal = equal-tail (w .equal); end₁ = w .end₁; end₂
 
 -- ---- one after the other, and again and again
 
-pub walk-append : {M : Machine} {s t u v p q : ℕ} (xs ys : List ℕ) {xs′ ys′ : List ℕ} → Walk M s t xs ys u v → Walk M u v xs′ ys′ p q → Walk M s t (xs ++ xs′) (ys ++ ys′) p q
+pub walk-append :
+    {M : Machine} {s t u v p q : ℕ} (xs ys : List ℕ) {xs′ ys′ : List ℕ} → Walk M s t xs ys u v → Walk M u v xs′ ys′ p q →
+    Walk M s t (xs ++ xs′) (ys ++ ys′) p q
 walk-append [] [] a b = rw (a .end₁, a .end₂) b
 walk-append [] (y ∷ ys) a b = absurd (omega (arith, a .equal .length₂))
 walk-append (x ∷ xs) [] a b = absurd (omega (arith, a .equal .length₂))
@@ -42,7 +46,9 @@ pub record Cut (M : Machine) (s t : ℕ) (xs ys xs′ ys′ : List ℕ) (p q : �
   pub before : Walk M s t xs ys (end M s xs) (end M t ys)
   pub after : Walk M (end M s xs) (end M t ys) xs′ ys′ p q
 
-pub walk-cut : {M : Machine} {s t p q : ℕ} (xs ys : List ℕ) {xs′ ys′ : List ℕ} → length xs ≡ length ys → Walk M s t (xs ++ xs′) (ys ++ ys′) p q → Cut M s t xs ys xs′ ys′ p q
+pub walk-cut :
+    {M : Machine} {s t p q : ℕ} (xs ys : List ℕ) {xs′ ys′ : List ℕ} → length xs ≡ length ys → Walk M s t (xs ++ xs′) (ys ++ ys′) p q →
+    Cut M s t xs ys xs′ ys′ p q
 walk-cut [] [] e w = record { before = walk-nil; after = w }
 walk-cut [] (y ∷ ys) e w = absurd (omega arith)
 walk-cut (x ∷ xs) [] e w = absurd (omega arith)

@@ -16,7 +16,9 @@ use Rattle.mealy.proofs.Runs.{prefix, forward→runs, edge-start, back-
 abbrev pub Ambiguous : Setting → ℕ → ℕ → Type 0
 Ambiguous S b a = ConflictEdge S (Level S back b) (Level S forward a)
 
-pub conflict-map : {S : Setting} {P Q P′ Q′ : ℕ → ℕ → Type 0} → ((s t : ℕ) → P s t → P′ s t) → ((u v : ℕ) → Q u v → Q′ u v) → ConflictEdge S P Q → ConflictEdge S P′ Q′
+pub conflict-map :
+    {S : Setting} {P Q P′ Q′ : ℕ → ℕ → Type 0} → ((s t : ℕ) → P s t → P′ s t) → ((u v : ℕ) → Q u v → Q′ u v) → ConflictEdge S P Q →
+    ConflictEdge S P′ Q′
 conflict-map f g c =
     record {
       s = c .s;

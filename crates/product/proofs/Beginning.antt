@@ -43,7 +43,9 @@ module _ (test : ℕ → ℕ → Bool) where
             rw (p, q, put-same (f .shape) (a / 16) (a % 16) 255 (omega arith) (omega arith), e))
         | no g ↦ put-other (f .shape) (a / 16) (a % 16) 255 (omega arith) (omega arith) u v (λ p q. g (omega arith)) ∙ f .is u v l m (omega arith)
       ];
-      zero-from = λ u v l m n. put-other (f .shape) (a / 16) (a % 16) 255 (omega arith) (omega arith) u v (λ p q. omega arith) ∙ f .zero-from u v l m (omega arith);
+      zero-from =
+          λ u v l m n. put-other (f .shape) (a / 16) (a % 16) 255 (omega arith) (omega arith) u v (λ p q. omega arith) ∙ f .zero-from u v
+          l m (omega arith);
     }
 
     pub filled-skip : test (a / 16) (a % 16) ≡ false → FilledTo (a + 1) d

@@ -85,7 +85,13 @@ unfolding decimal
 decimal-three n m = let k : 10 ≤ n = omega arith in rw (le-ltb n 10 k, le-ltb n 100 m)
 
 pub decimal-short : (n : ℕ) → length (decimal n) ≤ 3
-decimal-short n = elim (decLt n 10) [ yes l ↦ rw (decimal-one n l) (omega arith) | no l ↦ elim (decLt n 100) [ yes m ↦ let k : 10 ≤ n = omega arith in rw (decimal-two n k m) (omega arith) | no m ↦ let k : 100 ≤ n = omega arith in rw (decimal-three n k) (omega arith) ] ]
+decimal-short n = elim (decLt n 10) [
+  | yes l ↦ rw (decimal-one n l) (omega arith)
+  | no l ↦ elim (decLt n 100) [
+    | yes m ↦ (let k : 10 ≤ n = omega arith in rw (decimal-two n k m) (omega arith))
+    | no m ↦ (let k : 100 ≤ n = omega arith in rw (decimal-three n k) (omega arith))
+  ]
+]
 
 -- ---- a number behind a text
 

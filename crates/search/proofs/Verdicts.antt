@@ -39,7 +39,9 @@ module _ (c : Coder) (flags : List ℕ) (sound : Sound c) (closed : Closed (flag
 
   module _ (none : e .x ≡ 0) (need : List ℕ) (needs : Needs worst need) where
     pub choose-asked : getD need 136 0 < 255
-    choose-asked = need-finite c flags sound backs forwards (found-back .depths) (found-forward .depths) worst need (done .none none) (done .sources (no-sources c backs forwards)) needs
+    choose-asked =
+        need-finite c flags sound backs forwards (found-back .depths) (found-forward .depths) worst need (done .none none)
+        (done .sources (no-sources c backs forwards)) needs
 
     pub window-says : (w : Window) (letters : List ℕ) → Chosen need w → Says S (Least w) letters letters
     window-says w letters h =

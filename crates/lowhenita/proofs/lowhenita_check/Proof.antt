@@ -26,13 +26,19 @@ put-one-requires : tie.Need-put-one-requires
 put-one-requires c κs = search needs
 
 returns-2 : tie.Need-returns-2
-returns-2 c = check-refused _ _ _ (c .before .before .before .before .if1 .left) (c .before .before .before .check2 .ensures) _ (c .before .r .given .1)
+returns-2 c =
+    check-refused _ _ _ (c .before .before .before .before .if1 .left) (c .before .before .before .check2 .ensures) _
+    (c .before .r .given .1)
 
 same-length : tie.Need-same-length
 same-length c = search needs
 
 returns-3 : tie.Need-returns-3
-returns-3 c = check-done _ _ _ (c .before .before .before .before .before .before .before .before .before .if1 .left) (c .before .before .before .before .before .before .before .before .check2 .ensures) _ _ _ (c .before .before .before .before .before .before .r2 .given .1) (c .before .before .before .yes-or-no .ensures) (c .before .before .put-one .ensures)
+returns-3 c =
+    check-done _ _ _ (c .before .before .before .before .before .before .before .before .before .if1 .left)
+    (c .before .before .before .before .before .before .before .before .check2 .ensures) _ _ _
+    (c .before .before .before .before .before .before .r2 .given .1) (c .before .before .before .yes-or-no .ensures)
+    (c .before .before .put-one .ensures)
 
 pub lowhenita-check-spec : {M : Type 1} → statement M
 lowhenita-check-spec =

@@ -26,7 +26,9 @@ same-length : tie.Need-same-length
 same-length c = search needs
 
 returns-2 : tie.Need-returns-2
-returns-2 c = run-refused _ _ _ _ _ (c .before .before .before .before .before .before .before .if1 .left) (c .before .before .before .before .before .run .ensures) _ (c .before .r .given .1)
+returns-2 c =
+    run-refused _ _ _ _ _ (c .before .before .before .before .before .before .before .if1 .left)
+    (c .before .before .before .before .before .run .ensures) _ (c .before .r .given .1)
 
 same-length-2 : tie.Need-same-length-2
 same-length-2 c = search needs
@@ -35,7 +37,10 @@ same-length-3 : tie.Need-same-length-3
 same-length-3 c = search needs
 
 returns-3 : tie.Need-returns-3
-returns-3 c = run-done _ _ _ _ _ (c .before .before .before .before .before .before .before .before .before .before .before .if1 .left) (c .before .before .before .before .before .before .before .before .before .run .ensures) _ _ _ (c .before .before .before .before .before .r2 .given .1) (c .before .before .put-two .ensures)
+returns-3 c =
+    run-done _ _ _ _ _ (c .before .before .before .before .before .before .before .before .before .before .before .if1 .left)
+    (c .before .before .before .before .before .before .before .before .before .run .ensures) _ _ _
+    (c .before .before .before .before .before .r2 .given .1) (c .before .before .put-two .ensures)
 
 pub lowhenita-run-spec : {M : Type 1} → statement M
 lowhenita-run-spec =

@@ -30,13 +30,20 @@ put-one-requires : tie.Need-put-one-requires
 put-one-requires c κs = search needs
 
 returns-2 : tie.Need-returns-2
-returns-2 c = window-refused _ _ _ _ _ (c .before .before .before .before .if1 .left) (c .before .before .before .window2 .ensures) _ (c .before .r .given .1)
+returns-2 c =
+    window-refused _ _ _ _ _ (c .before .before .before .before .if1 .left) (c .before .before .before .window2 .ensures) _
+    (c .before .r .given .1)
 
 same-length : tie.Need-same-length
 same-length c = search needs
 
 returns-3 : tie.Need-returns-3
-returns-3 c = window-done _ _ _ _ _ (c .before .before .before .before .before .before .before .before .before .before .if1 .left) (c .before .before .before .before .before .before .before .before .before .window2 .ensures) _ _ _ (c .before .before .before .before .before .before .before .r2 .given .1) (c .before .before .before .number .ensures .0 ∙ c .before .before .before .before .answer-byte .ensures) (c .before .before .put-one .ensures)
+returns-3 c =
+    window-done _ _ _ _ _ (c .before .before .before .before .before .before .before .before .before .before .if1 .left)
+    (c .before .before .before .before .before .before .before .before .before .window2 .ensures) _ _ _
+    (c .before .before .before .before .before .before .before .r2 .given .1)
+    (c .before .before .before .number .ensures .0 ∙ c .before .before .before .before .answer-byte .ensures)
+    (c .before .before .put-one .ensures)
 
 pub lowhenita-window-spec : {M : Type 1} → statement M
 lowhenita-window-spec =

@@ -25,7 +25,10 @@ array-share-prefix-bytes : tie.Need-array-share-prefix-bytes
 array-share-prefix-bytes c = search needs
 
 slice-aggregate-write-all : tie.Need-slice-aggregate-write-all
-slice-aggregate-write-all c = let h = c .before .before .report .ensures .1 in sym (length-take-le (c .before .before .report .result .len) (c .before .before .report .result .bytes) (omega (arith, h .space, h .free)))
+slice-aggregate-write-all c =
+    let h = c .before .before .report .ensures .1 in
+    let r = c .before .before .report .result in
+    sym (length-take-le (r .len) (r .bytes) (omega (arith, h .space, h .free)))
 
 write-all-requires : tie.Need-write-all-requires
 write-all-requires c κs = search needs

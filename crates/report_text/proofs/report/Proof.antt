@@ -20,13 +20,21 @@ coder-line-requires : tie.Need-coder-line-requires
 coder-line-requires c κs = counts-short _ (c .before .before .before .counts .ensures) (c .before .header2 .given .1)
 
 second-line-requires : tie.Need-second-line-requires
-second-line-requires c κs = (header-counts _ (c .before .before .before .before .counts .ensures) (c .before .before .header2 .given .1) .none, c .coder-line .ensures .1)
+second-line-requires c κs =
+    (header-counts _ (c .before .before .before .before .counts .ensures) (c .before .before .header2 .given .1) .none, c .coder-line .ensures .1)
 
 returns : tie.Need-returns
-returns c = (report-refused _ (c .before .before .before .before .counts .ensures) (c .before .before .header .given .1) (c .refused .ensures .0), c .refused .ensures .1)
+returns c = (
+  report-refused _ (c .before .before .before .before .counts .ensures) (c .before .before .header .given .1) (c .refused .ensures .0),
+  c .refused .ensures .1,
+)
 
 returns-2 : tie.Need-returns-2
-returns-2 c = (report-accepted _ (c .before .before .before .before .before .counts .ensures) (c .before .before .before .header2 .given .1) (c .before .coder-line .ensures .0) (c .second-line .ensures .0), c .second-line .ensures .1)
+returns-2 c = (
+  report-accepted _ (c .before .before .before .before .before .counts .ensures) (c .before .before .before .header2 .given .1)
+      (c .before .coder-line .ensures .0) (c .second-line .ensures .0),
+  c .second-line .ensures .1,
+)
 
 pub report-spec : {M : Type 1} → statement M
 report-spec =

@@ -51,7 +51,11 @@ add-result : tie.Need-add-result
 add-result c = search needs
 
 returns : tie.Need-returns
-returns c = let far = now (c .before .before .before .before .before .before .before .before .args .far) in omega (arith, c .before .before .number .ensures .0 ∙ ap (λ x. getD far (x - 1) 0) (c .before .before .before .before .before .before .wide .ensures), c .number2 .ensures .0 ∙ ap (λ x. getD far (x - 1) 0) (c .before .before .before .before .wide2 .ensures))
+returns c =
+    let far = now (c .before .before .before .before .before .before .before .before .args .far) in
+    let u = c .before .before .number .ensures .0 ∙ ap (λ x. getD far (x - 1) 0) (c .before .before .before .before .before .before .wide .ensures) in
+    let v = c .number2 .ensures .0 ∙ ap (λ x. getD far (x - 1) 0) (c .before .before .before .before .wide2 .ensures) in
+    omega (arith, u, v)
 
 pub step-spec : {M : Type 1} → statement M
 step-spec =

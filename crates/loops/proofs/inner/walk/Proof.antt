@@ -41,14 +41,19 @@ step-requires : tie.Need-step-requires Inv-loop μ-loop
 step-requires c κs = pair-here _ _ _ _ (c .before .loop .inv .2) (c .before .before .pre)
 
 -- one more pair is stamped
-more : (c : tie.After-step Inv-loop μ-loop) → Stamped (now (c .before .before .before .args .xs)) (now (c .before .before .before .args .ys)) (now (c .before .before .before .args .far)) (c .before .before .before .args .from) (c .before .before .loop .k + 1) (c .step .result) (set (c .before .before .loop .stamps) (c .before .before .loop .a) (c .before .before .loop .k + 1))
+more :
+    (c : tie.After-step Inv-loop μ-loop) →
+    Stamped (now (c .before .before .before .args .xs)) (now (c .before .before .before .args .ys)) (now (c .before .before .before .args .far))
+    (c .before .before .before .args .from) (c .before .before .loop .k + 1) (c .step .result)
+    (set (c .before .before .loop .stamps) (c .before .before .loop .a) (c .before .before .loop .k + 1))
 more c = stamped-more _ _ _ _ (c .before .before .loop .inv .2) (c .before .before .before .pre) (c .before .loop-test .taken) (c .step .ensures)
 
 loop-less : tie.Need-loop-less Inv-loop μ-loop
 loop-less c = search needs
 
 loop-again : tie.Need-loop-again Inv-loop μ-loop
-loop-again c = (stamped-high _ _ _ _ (more c) (c .before .before .before .pre), pair-here _ _ _ _ (more c) (c .before .before .before .pre) .inside, more c)
+loop-again c =
+    (stamped-high _ _ _ _ (more c) (c .before .before .before .pre), pair-here _ _ _ _ (more c) (c .before .before .before .pre) .inside, more c)
 
 mul-wide : tie.Need-mul-wide Inv-loop μ-loop
 mul-wide c = search needs

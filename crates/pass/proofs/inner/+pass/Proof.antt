@@ -91,7 +91,8 @@ pass-returns-2 t c = λ d a e.
     let s = c .before .before .before .before .before .before .before .before .before in
     c .pass .ensures d a e ∙
     ap (λ x. answerOf (unionOf (s .args .states) x))
-    (passed-more d (now (s .args .v)) (s .args .present) (now (s .args .left)) (c .before .before .before .before .before .before .before .if1 .left) (c .before .before .before .before .before .before .byte .ensures .0)
+    (passed-more d (now (s .args .v)) (s .args .present) (now (s .args .left))
+    (c .before .before .before .before .before .before .before .if1 .left) (c .before .before .before .before .before .before .byte .ensures .0)
     (c .before .before .before .before .advance .ensures d a) (c .before .before .before .present-after .ensures))
 
 pub +pass-spec : {M : Type 1} → statement M

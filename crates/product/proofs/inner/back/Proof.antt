@@ -10,7 +10,9 @@ source-requires : tie.Need-source-requires
 source-requires c κs = search needs
 
 along-requires : tie.Need-along-requires
-along-requires c κs = record { d = back; sound = c .before .before .before .before .before .before .pre .0; near-is = refl; far-is = c .before .before .before .before .before .source .ensures; kept = c .before .before .before .before .before .before .pre .1 }
+along-requires c κs =
+    let p = c .before .before .before .before .before .before .pre in
+    record { d = back; sound = p .0; near-is = refl; far-is = c .before .before .before .before .before .source .ensures; kept = p .1 }
 
 returns : tie.Need-returns
 returns c = c .along .ensures back refl (c .before .before .before .before .before .before .source .ensures)

@@ -10,7 +10,9 @@ source-requires : tie.Need-source-requires
 source-requires c κs = search needs
 
 along-requires : tie.Need-along-requires
-along-requires c κs = record { d = forward; sound = c .before .before .before .before .before .before .pre .0; near-is = c .before .before .before .before .before .source .ensures; far-is = refl; kept = c .before .before .before .before .before .before .pre .1 }
+along-requires c κs =
+    let p = c .before .before .before .before .before .before .pre in
+    record { d = forward; sound = p .0; near-is = c .before .before .before .before .before .source .ensures; far-is = refl; kept = p .1 }
 
 returns : tie.Need-returns
 returns c = c .along .ensures forward (c .before .before .before .before .before .before .source .ensures) refl

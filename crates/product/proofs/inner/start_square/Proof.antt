@@ -12,7 +12,8 @@ use Rattle.product.proofs.inner.start_square.Statement.{statement}
 use Rattle.product.proofs.inner.start_square.Tie as tie
 
 abbrev Inv-loop : tie.InvT-loop
-Inv-loop states flags end d₀ a₀ d a = (a ≤ end) × (end ≡ 16 * states) × FilledTo (λ u v. both (startFlag states flags u) (startFlag states flags v)) a d
+Inv-loop states flags end d₀ a₀ d a =
+    (a ≤ end) × (end ≡ 16 * states) × FilledTo (λ u v. both (startFlag states flags u) (startFlag states flags v)) a d
 
 abbrev μ-loop : tie.MeasureT-loop
 μ-loop states flags end d₀ a₀ d a = end - a

@@ -23,7 +23,11 @@ put-requires-2 : tie.Need-put-requires-2
 put-requires-2 c κs = search needs
 
 returns : tie.Need-returns
-returns c = (from-empty (c .before .before .before .before .before .empty .ensures .0) (appended-then (appended-then (c .before .before .before .put .ensures) (c .before .before .number .ensures .0)) (c .put2 .ensures)), search needs)
+returns c = (
+  from-empty (c .before .before .before .before .before .empty .ensures .0)
+      (appended-then (appended-then (c .before .before .before .put .ensures) (c .before .before .number .ensures .0)) (c .put2 .ensures)),
+  search needs,
+)
 
 pub refused-spec : {M : Type 1} → statement M
 refused-spec =

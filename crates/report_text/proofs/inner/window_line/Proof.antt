@@ -29,7 +29,10 @@ put-requires-3 : tie.Need-put-requires-3
 put-requires-3 c κs = search needs
 
 returns : tie.Need-returns
-returns c = (appended-then (appended-then (appended-then (appended-then (c .before .before .before .before .before .before .put .ensures) (c .before .before .before .before .before .number .ensures .0)) (c .before .before .before .put2 .ensures)) (c .before .before .number2 .ensures .0)) (c .put3 .ensures) .text, search needs)
+returns c =
+    let b = appended-then (c .before .before .before .before .before .before .put .ensures) (c .before .before .before .before .before .number .ensures .0) in
+    let a = appended-then (appended-then b (c .before .before .before .put2 .ensures)) (c .before .before .number2 .ensures .0) in
+    (appended-then a (c .put3 .ensures) .text, search needs)
 
 pub window-line-spec : {M : Type 1} → statement M
 window-line-spec =

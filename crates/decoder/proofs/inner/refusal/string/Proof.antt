@@ -35,11 +35,17 @@ letters-below-requires c κs = search needs
 
 returns-3 : tie.Need-returns-3
 unfolding stringRefusal
-returns-3 c = rw (not-refused (c .before .before .before .before .before .before), ← (c .before .before .before .before .before .places .ensures), c .before .before .before .if3 .taken, ← (c .before .before .byte .ensures .0), via (c .before .letters-below .ensures) (c .if4 .taken)) (search tests)
+returns-3 c =
+    let b = c .before .before .before in
+    rw (not-refused (b .before .before .before), ← (b .before .before .places .ensures), b .if3 .taken)
+    (rw (← (c .before .before .byte .ensures .0), via (c .before .letters-below .ensures) (c .if4 .taken)) (search tests))
 
 returns-4 : tie.Need-returns-4
 unfolding stringRefusal
-returns-4 c = rw (not-refused (c .before .before .before .before .before .before), ← (c .before .before .before .before .before .places .ensures), c .before .before .before .if3 .taken, ← (c .before .before .byte .ensures .0), via (c .before .letters-below .ensures) (c .if4 .left)) (search tests)
+returns-4 c =
+    let b = c .before .before .before in
+    rw (not-refused (b .before .before .before), ← (b .before .before .places .ensures), b .if3 .taken)
+    (rw (← (c .before .before .byte .ensures .0), via (c .before .letters-below .ensures) (c .if4 .left)) (search tests))
 
 returns-5 : tie.Need-returns-5
 unfolding stringRefusal

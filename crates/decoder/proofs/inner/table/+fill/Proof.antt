@@ -84,10 +84,14 @@ fill-advance-requires t c κs =
     (p .arrays, omega (arith, p .outputs-high), refl)
 
 fill-mul-from : (t : ℕ) → fill-lts.Need-mul-from (claims t) (fill-at t) fill.Post fill-Inv-loop fill-μ-loop
-fill-mul-from t c = omega (arith, filling-room (c .before .before .before .loop .inv) (c .before .before .loop-test .taken), c .before .before .before .loop .inv, c .before .before .before .before .before .before .before)
+fill-mul-from t c =
+    let i = c .before .before .before .loop .inv in
+    omega (arith, filling-room i (c .before .before .loop-test .taken), i, c .before .before .before .before .before .before .before)
 
 fill-add-end : (t : ℕ) → fill-lts.Need-add-end (claims t) (fill-at t) fill.Post fill-Inv-loop fill-μ-loop
-fill-add-end t c = omega (arith, filling-room (c .before .before .before .loop .inv) (c .before .before .loop-test .taken), c .before .before .before .loop .inv, c .before .before .before .before .before .before .before)
+fill-add-end t c =
+    let i = c .before .before .before .loop .inv in
+    omega (arith, filling-room i (c .before .before .loop-test .taken), i, c .before .before .before .before .before .before .before)
 
 fill-sub-fill : (t : ℕ) → fill-lts.Need-sub-fill (claims t) (fill-at t) fill.Post fill-Inv-loop fill-μ-loop
 fill-sub-fill t c = search needs
@@ -122,7 +126,8 @@ fill-loop-less t c = omega (arith, c .before .before .before .before .before .be
 
 fill-loop-again : (t : ℕ) → fill-lts.Need-loop-again (claims t) (fill-at t) fill.Post fill-Inv-loop fill-μ-loop
 fill-loop-again t c =
-    filling-more (c .before .before .before .before .before .before .before .before .loop .inv) _ _ (c .before .before .before .before .before .before .before .loop-test .taken) (c .before .before .before .before .before .advance .ensures)
+    filling-more (c .before .before .before .before .before .before .before .before .loop .inv) _ _
+    (c .before .before .before .before .before .before .before .loop-test .taken) (c .before .before .before .before .before .advance .ensures)
     (c .before .before .fill .ensures) (c .before .before .fill .kept .1 .1 .1 .1 .1 .1 .1 .1 .0)
 
 fill-same-length-2 : (t : ℕ) → fill-lts.Need-same-length-2 (claims t) (fill-at t) fill.Post fill-Inv-loop fill-μ-loop

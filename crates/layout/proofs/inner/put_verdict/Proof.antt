@@ -1,7 +1,7 @@
 -- `put_verdict` meets its contract: the fields of each kind of verdict.
 use borrow.Author.Needs.{needs}
-use Rattle.lowhenita.proofs.inner.fields.put_verdict.Statement.{statement}
-use Rattle.lowhenita.proofs.inner.fields.put_verdict.Tie as tie
+use Rattle.layout.proofs.inner.put_verdict.Statement.{statement}
+use Rattle.layout.proofs.inner.put_verdict.Tie as tie
 
 enum-known-verdict : tie.Need-enum-known-verdict
 enum-known-verdict c = search needs

@@ -5,7 +5,7 @@ use Prim.Native.Nat.{ℕ, zero, suc, _+_, _*_, _/_, _%_, _<_}
 use native.Mathlib.Nat.{le-of-suc-le-suc}
 use native.Mathlib.Omega.{arith}
 use lib.ListN.{length, getD, take, drop}
-use Rattle.lowhenita.specs.Layout.{field, fieldsOf, withFields}
+use Rattle.layout.specs.Layout.{field, fieldsOf, withFields}
 
 -- the number whose digits to base 256 follow those of v
 unfoldable pub numberFrom : ℕ → List ℕ → ℕ

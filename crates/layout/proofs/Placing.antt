@@ -6,7 +6,7 @@ use native.Mathlib.Numerals.{add-one}
 use native.Mathlib.Omega.{arith}
 use lib.ListN.{length, getD, take, drop, length-append, length-drop}
 use lib.Seq.{length-take-le, take-suc, take-at, drop-append-add, drop-drop, sets, sets-eq}
-use Rattle.lowhenita.specs.Layout.{field, fieldsOf}
+use Rattle.layout.specs.Layout.{field, fieldsOf}
 
 length-fields : (ns : List ℕ) → length (fieldsOf ns) ≡ 8 * length ns
 unfolding fieldsOf

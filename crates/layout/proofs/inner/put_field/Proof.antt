@@ -3,8 +3,8 @@ use native.Mathlib.Numerals.{towards-suc}
 use native.Mathlib.Omega.{arith}
 use lib.ListN.{length-set}
 use borrow.Author.Needs.{needs}
-use Rattle.lowhenita.proofs.inner.fields.put_field.Statement.{statement}
-use Rattle.lowhenita.proofs.inner.fields.put_field.Tie as tie
+use Rattle.layout.proofs.inner.put_field.Statement.{statement}
+use Rattle.layout.proofs.inner.put_field.Tie as tie
 
 mul-at : tie.Need-mul-at
 mul-at c = search needs

@@ -6,10 +6,10 @@ use native.Mathlib.Omega.{arith}
 use lib.ListN.{length, getD, take, drop}
 use lib.Seq.{sets, take-length}
 use denote.Ref.{now}
-use Rattle.lowhenita.specs.Layout.{field, fieldsOf}
-use Rattle.lowhenita.proofs.Placing.{put-more}
-use Rattle.lowhenita.proofs.inner.fields.put_fields.Statement.{statement}
-use Rattle.lowhenita.proofs.inner.fields.put_fields.Tie as tie
+use Rattle.layout.specs.Layout.{field, fieldsOf}
+use Rattle.layout.proofs.Placing.{put-more}
+use Rattle.layout.proofs.inner.put_fields.Statement.{statement}
+use Rattle.layout.proofs.inner.put_fields.Tie as tie
 
 abbrev Inv-loop : tie.InvT-loop
 Inv-loop result₀ numbers k₀ result k =

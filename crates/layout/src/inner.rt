@@ -1,10 +1,10 @@
-// The fields of the result buffer: 8 bytes each, big-endian, field k at bytes 8 k to 8 k + 7.
+// No public calls: the fields of the result buffer, 8 bytes each, big-endian, field k at bytes 8 k to 8 k + 7.
 ghost use mathlib.Core.Path.{_≡_};
 ghost use mathlib.Core.List.{[], _∷_};
 ghost use Prim.Native.Nat.{_+_, _*_, _≤_};
 ghost use lib.ListN.{length};
 ghost use lib.Seq.{sets};
-ghost use Rattle.lowhenita.specs.Layout.{field, withFields, verdictFields, numberOf};
+ghost use Rattle.layout.specs.Layout.{field, withFields, verdictFields, numberOf};
 
 // Writes x into field k.
 fn put_field(result: &mut [u8], k: usize, x: usize)

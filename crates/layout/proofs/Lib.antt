@@ -1,0 +1,3 @@
+-- The laws of the result buffer's fields.
+pub mod Placing
+pub mod Reading

@@ -1,0 +1,2 @@
+-- What the contracts of the result buffer's fields cite.
+pub mod Layout
