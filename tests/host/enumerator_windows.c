@@ -118,48 +118,36 @@ static int first_time(tried *d, size_t s, size_t t)
     return 1;
 }
 
-/* Whether two runs of n letters from these states have equal outputs. */
-static int runs_go_on(const coder *c, size_t s, size_t t, size_t n)
-{
-    tried done = {{0}};
-    size_t i, j;
+/* The entries that lead out of each state, or into it: the state at the other end, the output. */
+typedef struct ends {
+    size_t count[MOST_STATES];
+    uint8_t other[MOST_STATES][MOST_STATES * MOST_INPUTS];
+    uint8_t output[MOST_STATES][MOST_STATES * MOST_INPUTS];
+} ends;
 
-    if (n == 0)
-        return 1;
-    if (!take_step())
-        return 0;
-    for (i = 0; i < c->inputs; i++)
-        for (j = 0; j < c->inputs; j++)
-            if (output_letter(c, s, i) == output_letter(c, t, j)
-                && first_time(&done, next_state(c, s, i), next_state(c, t, j))
-                && runs_go_on(c, next_state(c, s, i), next_state(c, t, j), n - 1))
-                return 1;
-    return 0;
+static void add_entry(ends *e, size_t state, size_t other, size_t output)
+{
+    size_t k = e->count[state]++;
+
+    e->other[state][k] = (uint8_t)other;
+    e->output[state][k] = (uint8_t)output;
 }
 
-/* The entries that lead into each state. */
-typedef struct entering {
-    size_t count[MOST_STATES];
-    uint8_t from[MOST_STATES][MOST_STATES * MOST_INPUTS];
-    uint8_t output[MOST_STATES][MOST_STATES * MOST_INPUTS];
-} entering;
-
-static void list_entering(const coder *c, entering *e)
+static void list_entries(const coder *c, ends *out, ends *in)
 {
     size_t s, i;
 
-    memset(e->count, 0, sizeof e->count);
+    memset(out->count, 0, sizeof out->count);
+    memset(in->count, 0, sizeof in->count);
     for (s = 0; s < c->states; s++)
         for (i = 0; i < c->inputs; i++) {
-            size_t to = next_state(c, s, i), k = e->count[to]++;
-
-            e->from[to][k] = (uint8_t)s;
-            e->output[to][k] = (uint8_t)output_letter(c, s, i);
+            add_entry(out, s, next_state(c, s, i), output_letter(c, s, i));
+            add_entry(in, next_state(c, s, i), s, output_letter(c, s, i));
         }
 }
 
-/* Whether two runs of n letters into these states have equal outputs. */
-static int runs_come_in(const entering *e, size_t s, size_t t, size_t n)
+/* Whether two runs of n letters out of these states, or into them, have equal outputs. */
+static int two_runs(const ends *e, size_t s, size_t t, size_t n)
 {
     tried done = {{0}};
     size_t i, j;
@@ -171,20 +159,20 @@ static int runs_come_in(const entering *e, size_t s, size_t t, size_t n)
     for (i = 0; i < e->count[s]; i++)
         for (j = 0; j < e->count[t]; j++)
             if (e->output[s][i] == e->output[t][j]
-                && first_time(&done, e->from[s][i], e->from[t][j])
-                && runs_come_in(e, e->from[s][i], e->from[t][j], n - 1))
+                && first_time(&done, e->other[s][i], e->other[t][j])
+                && two_runs(e, e->other[s][i], e->other[t][j], n - 1))
                 return 1;
     return 0;
 }
 
 /* Whether two runs have equal outputs that read these letters in these states at the present
    place. */
-static int runs_around(const coder *c, const entering *e, size_t before, size_t after,
+static int runs_around(const coder *c, const ends *out, const ends *in, size_t before, size_t after,
                        const size_t from[2], const size_t by[2])
 {
     return output_letter(c, from[0], by[0]) == output_letter(c, from[1], by[1])
-        && runs_go_on(c, next_state(c, from[0], by[0]), next_state(c, from[1], by[1]), after)
-        && runs_come_in(e, from[0], from[1], before);
+        && two_runs(out, next_state(c, from[0], by[0]), next_state(c, from[1], by[1]), after)
+        && two_runs(in, from[0], from[1], before);
 }
 
 /* Every pair of runs is a pair of runs into the present place, two letters there and a pair of runs
@@ -192,15 +180,15 @@ static int runs_around(const coder *c, const entering *e, size_t before, size_t 
    matter, so the first has the smaller letter. */
 enum answer works_by_pairs(const coder *c, size_t before, size_t after)
 {
-    static entering e;
+    static ends out, in;
     size_t from[2], by[2];
 
-    list_entering(c, &e);
+    list_entries(c, &out, &in);
     for (from[0] = 0; from[0] < c->states; from[0]++)
         for (from[1] = 0; from[1] < c->states; from[1]++)
             for (by[1] = 1; by[1] < c->inputs; by[1]++)
                 for (by[0] = 0; by[0] < by[1]; by[0]++) {
-                    if (runs_around(c, &e, before, after, from, by))
+                    if (runs_around(c, &out, &in, before, after, from, by))
                         return NO;
                     if (steps_used_up())
                         return UNKNOWN;
