@@ -16,3 +16,5 @@ pub mod ComesBack
 pub mod Places
 pub mod Pigeonhole
 pub mod Starts
+pub mod SameSettings
+pub mod Words

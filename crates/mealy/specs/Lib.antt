@@ -1,5 +1,6 @@
 -- What the contracts cite: machines, runs, windows, the decoder's answer, the product machine, looped pairs.
 pub mod Machine
+pub mod Word
 pub mod Setting
 pub mod Window
 pub mod Order

@@ -33,9 +33,13 @@ pub record Neighbour (M : Machine) (d : Direction) (P : ℕ → ℕ → Type 0) 
 
 -- The level sets. Level 0 has the pairs of start states; a pair is in level k + 1 if it has a neighbour in level k.
 -- `back↔runs` and `forward↔runs` of proofs/Runs.antt say what they are of runs.
+abbrev pub LevelOf : Machine → (ℕ → Type 0) → Direction → ℕ → ℕ → ℕ → Type 0
+LevelOf M Start d zero u v = Start u × Start v
+LevelOf M Start d (suc k) u v = Start u × Start v × Neighbour M d (LevelOf M Start d k) u v
+
+-- Which letters conflict has no part in them.
 abbrev pub Level : Setting → Direction → ℕ → ℕ → ℕ → Type 0
-Level S d zero u v = S .Start u × S .Start v
-Level S d (suc k) u v = S .Start u × S .Start v × Neighbour (S .M) d (Level S d k) u v
+Level S = LevelOf (S .M) (S .Start)
 
 -- The level sets no longer change from level k on.
 abbrev pub Settled : Setting → Direction → ℕ → Type 0

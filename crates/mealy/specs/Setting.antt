@@ -5,6 +5,7 @@ use mathlib.Core.Logic.{_≢_}
 use mathlib.Core.List.{List}
 use lib.ListN.{getD}
 use Rattle.mealy.specs.Machine.{Machine}
+use Rattle.mealy.specs.Word.{Has}
 
 -- It holds no proof, so that a contract can cite it.
 pub record Setting : Type 1 where
@@ -27,3 +28,17 @@ anyState M = record { M = M; Start = λ s. s < M .states; Conflict = λ i j. i �
 -- The same with the start states as a list of flags: those whose flag is 1. The functions on tables take the start states so.
 abbrev pub flagged : Machine → List ℕ → Setting
 flagged M flags = record { M = M; Start = λ s. (s < M .states) × (getD flags s 0 ≡ 1); Conflict = λ i j. i ≢ j }
+
+-- The same with both as data: the start states as a word, and for each input letter the word of the letters that conflict with it.
+-- The functions on tables take them so.
+abbrev pub worded : Machine → ℕ → List ℕ → Setting
+worded M starts conflicts =
+    record { M = M; Start = λ s. (s < M .states) × Has starts s; Conflict = λ i j. Has (getD conflicts i 0) j }
+
+-- Two settings say the same: one machine, the same start states, and the same conflicts of its input letters.
+pub record Same (S T : Setting) : Type 0 where
+  pub machine : S .M ≡ T .M
+  pub start : (s : ℕ) → S .Start s → T .Start s
+  pub start′ : (s : ℕ) → T .Start s → S .Start s
+  pub conflict : (i j : ℕ) → i < S .M .inputs → j < S .M .inputs → S .Conflict i j → T .Conflict i j
+  pub conflict′ : (i j : ℕ) → i < S .M .inputs → j < S .M .inputs → T .Conflict i j → S .Conflict i j

@@ -1,0 +1,150 @@
+-- Words that hold sets: the empty set, one number, unions, the greatest number.
+use mathlib.Core.Path.{_≡_, refl, sym, ap, _∙_}
+use mathlib.Core.Logic.{_⊎_, inl, inr, ⊎-elim}
+use Prim.Native.Nat.{ℕ, zero, suc, _+_, _-_, _*_, _/_, _%_, _^_, _<_, _≤_, max}
+use native.Mathlib.Decide.{ℕ-discrete, decLt}
+use native.Mathlib.Nat.{le-refl, max-comm, zero-max, pow-suc, one-mul, div-eq-of-lt, div-eq-of-lt-le, div-eq-of-eq-mul-left}
+use native.Mathlib.Omega.{arith}
+use lib.Bits.{bitOr, or-step, or-shr, or-lt, or-shifted}
+use lib.Count.{leadingZeros, leading-le, leading-top}
+use lib.Pow.{pow-pos, pow-lt, pow-add, shl-exact}
+use lib.Dec.{lit<}
+use Rattle.mealy.specs.Word.{Has, Holds}
+
+-- the union's bits
+one-max : (b : ℕ) → b < 2 → max 1 b ≡ 1
+one-max zero l = refl
+one-max (suc zero) l = refl
+one-max (suc (suc b)) l = absurd (omega arith)
+
+max-bit : (a b : ℕ) → a < 2 → b < 2 → max a b < 2
+max-bit zero b k l = rw (zero-max b) l
+max-bit (suc zero) b k l = rw (one-max b l) (omega arith)
+max-bit (suc (suc a)) b k l = absurd (omega arith)
+
+low-bit : (a m : ℕ) → m < 2 → (a * 2 + m) % 2 ≡ m
+low-bit a m l = omega arith
+
+or-bit : (u v x : ℕ) → bitOr u v / 2 ^ x % 2 ≡ max (u / 2 ^ x % 2) (v / 2 ^ x % 2)
+or-bit u v x =
+    let a = u / 2 ^ x in
+    let b = v / 2 ^ x in
+    ap (λ n. n % 2) (or-shr u v x ∙ or-step a b) ∙
+    low-bit (bitOr (a / 2) (b / 2)) (max (a % 2) (b % 2)) (max-bit (a % 2) (b % 2) (omega arith) (omega arith))
+
+pub has-left : (u v x : ℕ) → Has u x → Has (bitOr u v) x
+has-left u v x h = or-bit u v x ∙ rw h (one-max (v / 2 ^ x % 2) (omega arith))
+
+pub has-right : (u v x : ℕ) → Has v x → Has (bitOr u v) x
+has-right u v x h = or-bit u v x ∙ max-comm (u / 2 ^ x % 2) (v / 2 ^ x % 2) ∙ rw h (one-max (u / 2 ^ x % 2) (omega arith))
+
+pub has-or : (u v x : ℕ) → Has (bitOr u v) x → Has u x ⊎ Has v x
+has-or u v x h =
+    elim (ℕ-discrete (u / 2 ^ x % 2) 1) [
+      | yes e ↦ inl e
+      | no n ↦
+          let z : u / 2 ^ x % 2 ≡ 0 = omega arith in
+          inr (sym (zero-max (v / 2 ^ x % 2)) ∙ ap (λ a. max a (v / 2 ^ x % 2)) (sym z) ∙ sym (or-bit u v x) ∙ h)
+    ]
+
+-- the highest bit
+has-top : (a j : ℕ) → 2 ^ j ≤ a → a < 2 ^ suc j → Has a j
+has-top a j l h =
+    let e : a / 2 ^ j ≡ 1 = div-eq-of-lt-le {k = 1} (2 ^ j) (omega arith) (omega (arith, pow-suc 2 j)) in
+    ap (λ n. n % 2) e
+
+-- the empty set, and the set of one letter
+pub has-empty : (x : ℕ) → Has 0 x → ⊥
+has-empty x h = let e : 0 / 2 ^ x ≡ 0 = div-eq-of-lt (pow-pos x) in omega arith
+
+pub has-itself : (x : ℕ) → Has (2 ^ x) x
+has-itself x = has-top (2 ^ x) x (le-refl (2 ^ x)) (pow-lt (omega arith))
+
+even : (k x y : ℕ) → y ≡ suc k + x → 2 ^ y / 2 ^ x ≡ 2 ^ k * 2
+even k x y e = div-eq-of-eq-mul-left (pow-pos x) (ap (λ n. 2 ^ n) e ∙ pow-add 2 (suc k) x ∙ ap (λ n. n * 2 ^ x) (pow-suc 2 k))
+
+pub has-alone : (x y : ℕ) → Has (2 ^ y) x → x ≡ y
+has-alone x y h =
+    elim (decLt x y) [
+      | yes l ↦ absurd (let e = even (y - suc x) x y (omega arith) in omega arith)
+      | no n ↦
+          elim (decLt y x) [
+            | yes l ↦ absurd (let e : 2 ^ y / 2 ^ x ≡ 0 = div-eq-of-lt (pow-lt l) in omega arith)
+            | no m ↦ omega arith
+          ]
+    ]
+
+-- the set of one letter, as it is made
+pub one-shifted : (x : ℕ) → x < 16 → 1 * 2 ^ x % 2 ^ 16 ≡ 2 ^ x
+one-shifted x l = shl-exact {a = 1} 1 x 16 (lit< tt) (omega arith) ∙ one-mul (2 ^ x)
+
+-- a set that is not empty has a greatest letter
+pub leading-high : (u : ℕ) → (u ≡ 0 → ⊥) → leadingZeros 16 u ≤ 15
+unfolding leadingZeros
+leading-high zero n = absurd (n refl)
+leading-high (suc u) n = leading-le 15 (suc u / 2)
+
+pub holds-map :
+    {P Q : ℕ → Type 0} {u : ℕ} → ((x : ℕ) → P x → Q x) → ((x : ℕ) → Q x → P x) → Holds P u → Holds Q u
+holds-map f g a =
+    record {
+      bound = a .bound;
+      below = λ x q. a .below x (g x q);
+      has = λ x q. a .has x (g x q);
+      only = λ x l h. f x (a .only x l h);
+    }
+
+pub holds-none : {P : ℕ → Type 0} → ((x : ℕ) → P x → ⊥) → Holds P 0
+holds-none h =
+    record {
+      bound = omega arith;
+      below = λ x p. absurd (h x p);
+      has = λ x p. absurd (h x p);
+      only = λ x l e. absurd (has-empty x e);
+    }
+
+pub holds-one : {P : ℕ → Type 0} (x : ℕ) → x < 16 → P x → ((y : ℕ) → P y → y ≡ x) → Holds P (2 ^ x)
+holds-one x l p h =
+    record {
+      bound = pow-lt l;
+      below = λ y q. rw (h y q) l;
+      has = λ y q. rw (h y q) (has-itself x);
+      only = λ y m e. rw (has-alone y x e) p;
+    }
+
+-- 0 says that the set is empty, and any other word that it is not
+pub holds-empty : {P : ℕ → Type 0} {u : ℕ} → Holds P u → u ≡ 0 → (x : ℕ) → P x → ⊥
+holds-empty a e x p = has-empty x (rw e at (a .has x p))
+
+-- its greatest letter
+pub holds-greatest :
+    {P : ℕ → Type 0} {u : ℕ} → Holds P u → (u ≡ 0 → ⊥) →
+    (x : ℕ) × (15 - leadingZeros 16 u ≡ x) × (2 ^ x ≤ u) × (u < 2 ^ suc x) × P x
+holds-greatest {P} {u} a n =
+    let t = leading-top 16 u (omega arith) (a .bound) in
+    let x = t .0 in
+    let l : x < 16 = let e = t .1 in omega arith in
+    (x, (let e = t .1 in omega arith), t .2, t .3, a .only x l (has-top u x (t .2) (t .3)))
+
+-- where that is not all, another one
+pub holds-another :
+    {P : ℕ → Type 0} {u : ℕ} → Holds P u → (x : ℕ) → x < 16 → 2 ^ x < u → u < 2 ^ suc x →
+    (y : ℕ) × (y < x) × P y
+holds-another {P} {u} a x l k m =
+    let r = u - 2 ^ x in
+    let s = pow-suc 2 x in
+    let t = leading-top x r (omega arith) (omega arith) in
+    let y = t .0 in
+    let h : y < x = let e = t .1 in omega arith in
+    let e : bitOr (1 * 2 ^ x) r ≡ u = or-shifted 1 x r (omega arith) ∙ omega arith in
+    (y, h, a .only y (omega arith) (rw e at (has-right (1 * 2 ^ x) r y (has-top r y (t .2) (t .3)))))
+
+module _ {P Q : ℕ → Type 0} where
+  pub holds-union : {u v : ℕ} → Holds P u → Holds Q v → Holds (λ x. P x ⊎ Q x) (bitOr u v)
+  holds-union {u} {v} a b =
+      record {
+        bound = or-lt 16 u v (a .bound) (b .bound);
+        below = λ x. ⊎-elim (a .below x) (b .below x);
+        has = λ x. ⊎-elim (λ p. has-left u v x (a .has x p)) (λ q. has-right u v x (b .has x q));
+        only = λ x l h. ⊎-elim (λ e. inl (a .only x l e)) (λ e. inr (b .only x l e)) (has-or u v x h);
+      }

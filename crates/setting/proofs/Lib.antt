@@ -1,0 +1,3 @@
+-- Laws that other crates cite.
+mod Numbers
+pub mod Same

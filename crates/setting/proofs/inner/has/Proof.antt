@@ -1,0 +1,17 @@
+use borrow.Author.Tests.{eqb-true, eqb-false}
+use borrow.Author.Needs.{needs}
+use borrow.Author.Needs.{needs}
+use Rattle.setting.proofs.inner.has.Statement.{statement}
+use Rattle.setting.proofs.inner.has.Tie as tie
+
+cast-result : tie.Need-cast-result
+cast-result c = search needs
+
+shr-result : tie.Need-shr-result
+shr-result c = search needs
+
+returns : tie.Need-returns
+returns c = record { yes′ = λ e. eqb-true _ _ e; no′ = λ e h. eqb-false _ _ e h }
+
+pub has-spec : {M : Type 1} → statement M
+has-spec = tie.close (tie.spec cast-result shr-result returns)

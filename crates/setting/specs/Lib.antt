@@ -1,0 +1,2 @@
+-- What the contracts of the setting's words cite.
+pub mod Words

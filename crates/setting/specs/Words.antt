@@ -1,0 +1,24 @@
+-- The setting of a coder, and the words that say it.
+use Prim.Native.Nat.{ℕ, _<_}
+use mathlib.Core.List.{List}
+use lib.ListN.{length, getD}
+use mathlib.Core.Path.{_≡_}
+use Rattle.mealy.specs.Word.{Has, Holds}
+use Rattle.mealy.specs.Setting.{Setting, anyState}
+use Rattle.coder.specs.Table.{machineOfCoder}
+use Rattle.coder.specs.declared.inner.tables.Coder.{Coder}
+
+-- The setting of a coder's tables. For an accepted file it is the file's (`same-setting` of proofs/Same.antt).
+abbrev pub settingOfCoder : Coder → Setting
+settingOfCoder c = anyState (machineOfCoder c)
+
+-- word i has bit j exactly where the letters i and j conflict
+pub record ConflictsOf (C : ℕ → ℕ → Type 0) (words : List ℕ) : Type 0 where
+  pub size : length words ≡ 16
+  pub conflict : (i j : ℕ) → i < 16 → j < 16 → C i j → Has (getD words i 0) j
+  pub conflict′ : (i j : ℕ) → i < 16 → j < 16 → Has (getD words i 0) j → C i j
+
+-- the words say the coder's setting
+pub record WordsOf (c : Coder) (starts : ℕ) (conflicts : List ℕ) : Type 0 where
+  pub starts-are : Holds (settingOfCoder c .Start) starts
+  pub conflicts-are : ConflictsOf (settingOfCoder c .Conflict) conflicts

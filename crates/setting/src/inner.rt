@@ -1,0 +1,39 @@
+// No public calls: the states in which a run may start, and the letters that a window has to tell apart. A set is a word of 16 bits: bit
+// x is set where x is in it.
+ghost use Prim.Native.Nat.{_<_};
+ghost use mathlib.Core.Logic.{_≢_};
+ghost use Rattle.mealy.specs.Word.{Has, Holds};
+ghost use Rattle.coder.specs.Refusal.{Judges};
+ghost use Rattle.coder.specs.Table.{Sound};
+ghost use Rattle.setting.specs.Words.{settingOfCoder, ConflictsOf};
+use coder::inner::tables::Coder;
+
+// Whether x is in a set.
+pub fn has(set: u16, x: usize) -> bool
+    requires { ⌜ x < 16 ⌝ }
+    ensures { λ r. ⌜ Judges (Has set x) r ⌝ }
+{
+    (set >> x) % 2 == 1
+}
+
+// The start states of a coder: all its states.
+pub fn start_states(c: Coder) -> u16
+    requires { ⌜ Sound c ⌝ }
+    ensures { λ r. ⌜ Holds (settingOfCoder c .Start) r ⌝ }
+{
+    let states = c.states;
+    ((1u32 << states) - 1) as u16
+}
+
+// For each input letter the letters that conflict with it: those that differ from it.
+pub fn different_letters() -> [u16; 16]
+    ensures { λ r. ⌜ ConflictsOf (λ i j. i ≢ j) r ⌝ }
+{
+    let mut words = [0u16; 16];
+    let mut i = 0;
+    while i < 16 {
+        words[i] = 65535 - (1u16 << i);
+        i += 1;
+    }
+    words
+}

@@ -1,0 +1,2 @@
+// The setting of a coder as data: its start states as a word, and the conflicts of its input letters as words.
+pub mod inner; // inner.rt: what the crates above call; no public calls

@@ -1,0 +1,3 @@
+-- Windows and looped pairs of the calls as those of the theory.
+pub mod Window
+pub mod Pair
