@@ -1,6 +1,6 @@
 -- The chains of the entries below place p, one entry at a time.
 use mathlib.Core.Path.{_≡_, refl, sym, ap, _∙_}
-use mathlib.Core.Bool.{Bool, true, false}
+use mathlib.Core.Bool.{Bool, true, false, cond}
 use mathlib.Core.List.{List}
 use Prim.Native.Nat.{ℕ, _+_, _*_, _≤_, _<_}
 use native.Mathlib.Numerals.{add-one}
@@ -9,7 +9,6 @@ use native.Mathlib.Decide.{ℕ-discrete, decLt}
 use lib.ListN.{length, getD, set, replicate, length-set, getD-replicate}
 use lib.Seq.{getD-set-same, getD-set-other}
 use borrow.Author.Tests.{eq-eqb, ne-eqb}
-use Rattle.coder.specs.Refusal.{pick}
 use Rattle.chains.specs.Chain.{isEntry, hasKey, lastBelow, Chained}
 use Rattle.chains.specs.declared.inner.Chain.{Chain}
 use Rattle.coder.proofs.Refusals.{true-false}
@@ -35,7 +34,7 @@ module _ (keys : List ℕ) (n i : ℕ) where
 
   step-last :
       (k p : ℕ) (b : Bool) → hasKey keys n i k p ≡ b →
-      lastBelow (hasKey keys n i k) (p + 1) ≡ pick b (p + 1) (lastBelow (hasKey keys n i k) p)
+      lastBelow (hasKey keys n i k) (p + 1) ≡ cond b (p + 1) (lastBelow (hasKey keys n i k) p)
   unfolding lastBelow
   step-last k p b e = rw (add-one, e)
 

@@ -1,10 +1,9 @@
 -- A walk along a chain passes exactly the entries with the chain's key.
 use mathlib.Core.Path.{_≡_, refl, sym, ap}
-use mathlib.Core.Bool.{Bool, true, false}
+use mathlib.Core.Bool.{Bool, true, false, cond}
 use Prim.Native.Nat.{ℕ, zero, suc, _≤_, _<_}
 use native.Mathlib.Omega.{arith}
 use native.Mathlib.Decide.{ℕ-discrete}
-use Rattle.coder.specs.Refusal.{pick}
 use Rattle.coder.proofs.Refusals.{true-false}
 use Rattle.chains.specs.Chain.{lastBelow, over}
 
@@ -14,7 +13,7 @@ module _ (test : ℕ → Bool) where
   last-bound zero = omega arith
   last-bound (suc p) = go (test p) (last-bound p)
     where
-      go : (b : Bool) → lastBelow test p ≤ p → pick b (suc p) (lastBelow test p) ≤ suc p
+      go : (b : Bool) → lastBelow test p ≤ p → cond b (suc p) (lastBelow test p) ≤ suc p
       go true l = omega arith
       go false l = omega arith
 

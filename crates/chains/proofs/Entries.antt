@@ -1,13 +1,12 @@
 -- Places that hold an entry, and entries with a key.
 use mathlib.Core.Path.{_≡_, refl, _∙_}
-use mathlib.Core.Bool.{Bool, true, false}
+use mathlib.Core.Bool.{Bool, true, false, _&&_}
 use mathlib.Core.List.{List}
 use Prim.Native.Nat.{ℕ, _*_, _/_, _%_, _≤_, _<_}
 use native.Mathlib.Omega.{arith}
 use lib.ListN.{getD}
 use lib.Dec.{ltb, eqb}
 use borrow.Author.Tests.{lt-ltb, le-ltb, ltb-true, eq-eqb, eqb-true}
-use Rattle.coder.specs.Refusal.{both}
 use Rattle.coder.proofs.Refusals.{both-true}
 use Rattle.chains.specs.Chain.{isEntry, hasKey}
 
@@ -19,7 +18,7 @@ pub past-inputs : (n i p : ℕ) → i ≤ p % 16 → isEntry n i p ≡ false
 unfolding isEntry
 past-inputs n i p l = rw (le-ltb (p % 16) i l) (go (ltb (p / 16) n))
   where
-    go : (b : Bool) → both b false ≡ false
+    go : (b : Bool) → (b && false) ≡ false
     go true = refl
     go false = refl
 

@@ -1,17 +1,16 @@
 -- Rows of entries: the entries with one key side by side.
 use Prim.Native.Nat.{ℕ, suc, _+_, _<_, _≤_}
 use mathlib.Core.Path.{_≡_}
-use mathlib.Core.Bool.{Bool}
+use mathlib.Core.Bool.{Bool, cond}
 use mathlib.Core.List.{List}
 use lib.ListN.{getD}
 use lib.Dec.{ltb}
-use Rattle.coder.specs.Refusal.{pick}
 use Rattle.chains.specs.Chain.{hasKey, lastBelow}
 use Rattle.chains.specs.declared.inner.Rows.{Rows}
 
 -- the number of the entry at place j of a row that ends before place e, counted from 1; q at the row's end
 abbrev pub ahead : List ℕ → ℕ → ℕ → ℕ → ℕ
-ahead entries e q j = pick (ltb j e) (suc (getD entries j 0)) q
+ahead entries e q j = cond (ltb j e) (suc (getD entries j 0)) q
 
 -- From place b to the one before e stand the places that pass the test, the last first, down to the one with number q; all of them
 -- where q is 0.

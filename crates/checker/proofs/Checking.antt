@@ -1,6 +1,6 @@
 -- What a check that is not refused may rely on, and what it then gives.
 use mathlib.Core.Path.{_≡_, refl, subst}
-use mathlib.Core.Bool.{Bool, not}
+use mathlib.Core.Bool.{Bool, not, _&&_}
 use mathlib.Core.List.{List}
 use Prim.Native.Nat.{ℕ, zero, suc, _*_, _<_, _≤_}
 use native.Mathlib.Omega.{arith}
@@ -10,7 +10,7 @@ use borrow.Author.Tests.{ltb-true, eqb-true}
 use Rattle.mealy.specs.Machine.{Machine, Letters}
 use Rattle.mealy.specs.Setting.{anyState}
 use Rattle.mealy.specs.LoopedPair.{LoopedPair, letters, Valid}
-use Rattle.coder.specs.Refusal.{both, refuse, lettersBelow, upon}
+use Rattle.coder.specs.Refusal.{refuse, lettersBelow, upon}
 use Rattle.coder.specs.File.{fileRefusal, statesOf, inputsOf, machineOf, settingOf}
 use Rattle.coder.specs.Table.{coderOf, machineIn}
 use Rattle.coder.specs.declared.inner.tables.Coder.{Coder}
@@ -35,7 +35,7 @@ unfolding checkRefusal
 check-accepted f p fits e =
     let l = lettersBelow (inputsOf f) (p .bytes) in
     let n = eqb (length (p .bytes)) (2 * letters p) in
-    let starts = both (ltb (p .s) (statesOf f)) (ltb (p .t) (statesOf f)) in
+    let starts = (ltb (p .s) (statesOf f) && ltb (p .t) (statesOf f)) in
     let rest = refuse (not starts) 7 (refuse (not n) 9 (refuse (not fits) 11 (refuse (not l) 12 0))) in
     let a = first-none (fileRefusal f) rest e in
     let b = refuse-not starts _ _ (lit< tt) (a .1) in

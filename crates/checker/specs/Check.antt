@@ -1,12 +1,12 @@
 -- The checker of looped pairs: its refusal and its promise.
 use Prim.Native.Nat.{ℕ, _*_}
 use mathlib.Core.Path.{_≡_}
-use mathlib.Core.Bool.{Bool, true, false, not}
+use mathlib.Core.Bool.{Bool, true, false, not, _&&_}
 use mathlib.Core.List.{List}
 use lib.ListN.{length}
 use lib.Dec.{ltb, eqb}
 use Rattle.mealy.specs.LoopedPair.{LoopedPair, letters, Valid}
-use Rattle.coder.specs.Refusal.{both, refuse, first, lettersBelow, upon}
+use Rattle.coder.specs.Refusal.{refuse, first, lettersBelow, upon}
 use Rattle.coder.specs.File.{fileRefusal, statesOf, inputsOf, settingOf}
 use Rattle.checker.specs.declared.CheckResult.{CheckResult}
 use Rattle.checker.specs.declared.CheckResult.the-variants.{Refused, Checked}
@@ -21,7 +21,7 @@ pairFrom s t b i o f bytes =
 unfoldable pub checkRefusal : List ℕ → LoopedPair → Bool → ℕ
 checkRefusal f p fits =
     first (fileRefusal f)
-    (refuse (not (both (ltb (p .s) (statesOf f)) (ltb (p .t) (statesOf f)))) 7
+    (refuse (not (ltb (p .s) (statesOf f) && ltb (p .t) (statesOf f))) 7
     (refuse (not (eqb (length (p .bytes)) (2 * letters p))) 9
     (refuse (not fits) 11
     (refuse (not (lettersBelow (inputsOf f) (p .bytes))) 12

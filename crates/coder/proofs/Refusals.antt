@@ -1,6 +1,6 @@
 -- Laws of the tests and chains of numbers that refusals are made of.
 use mathlib.Core.Path.{_≡_, refl, sym, _∙_}
-use mathlib.Core.Bool.{Bool, true, false, not}
+use mathlib.Core.Bool.{Bool, true, false, not, _&&_}
 use mathlib.Core.List.{List, [], _∷_}
 use mathlib.Core.Logic.{⊎-elim}
 use Prim.Native.Nat.{ℕ, zero, suc, _+_, _<_, _≤_}
@@ -12,7 +12,7 @@ use lib.Seq.{drop-cons}
 use lib.Dec.{ltb}
 use borrow.Author.Tests.{lt-ltb, le-ltb, le-leb, lt-leb, eq-eqb, ne-eqb, ltb-true, not-false}
 use Rattle.mealy.specs.Machine.{Letters}
-use Rattle.coder.specs.Refusal.{both, refuse, first, answer, allBelow, lettersBelow, upon}
+use Rattle.coder.specs.Refusal.{refuse, first, answer, allBelow, lettersBelow, upon}
 
 -- the value of a test from what is known of its numbers
 pub ruleset tests = (lt-ltb, le-ltb, le-leb, lt-leb, eq-eqb, ne-eqb)
@@ -21,18 +21,18 @@ pub ruleset tests = (lt-ltb, le-ltb, le-leb, lt-leb, eq-eqb, ne-eqb)
 pub via : {A : Type 0} {r t v : A} → r ≡ t → r ≡ v → t ≡ v
 via e q = sym e ∙ q
 
-pub both-true : (a b : Bool) → both a b ≡ true → (a ≡ true) × (b ≡ true)
+pub both-true : (a b : Bool) → (a && b) ≡ true → (a ≡ true) × (b ≡ true)
 both-true true b e = (refl, e)
 both-true false b e = (e, let z : _≡_ {A = ℕ} 0 1 = cc in absurd (omega arith))
 
 pub true-false : {b : Bool} → b ≡ true → b ≡ false → ⊥
 true-false e f = let z : _≡_ {A = ℕ} 0 1 = cc in absurd (omega arith)
 
-pub both-right : (t : Bool) → both t true ≡ t
+pub both-right : (t : Bool) → (t && true) ≡ t
 both-right true = refl
 both-right false = refl
 
-pub both-false : (a b : Bool) → b ≡ false → both a b ≡ false
+pub both-false : (a b : Bool) → b ≡ false → (a && b) ≡ false
 both-false true b e = e
 both-false false b e = refl
 
@@ -97,7 +97,7 @@ all-not (suc n) p k l e =
 -- the test of the letters from place k on
 letters-from :
     (n : ℕ) (xs : List ℕ) (k : ℕ) → k < length xs →
-    lettersBelow n (drop k xs) ≡ both (ltb (getD xs k 0) n) (lettersBelow n (drop (suc k) xs))
+    lettersBelow n (drop k xs) ≡ (ltb (getD xs k 0) n && lettersBelow n (drop (suc k) xs))
 letters-from n xs k l = rw (drop-cons xs k 0 l)
 
 pub letters-more :

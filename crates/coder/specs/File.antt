@@ -1,12 +1,12 @@
 -- The coder file: what refuses it, and what an accepted one says (document 01, "Coder file").
 use Prim.Native.Nat.{ℕ, _+_, _*_, _-_}
-use mathlib.Core.Bool.{Bool, not}
+use mathlib.Core.Bool.{Bool, not, _&&_, cond}
 use mathlib.Core.List.{List, []}
 use lib.ListN.{length, getD, drop}
 use lib.Dec.{ltb, leb, eqb}
 use Rattle.mealy.specs.Machine.{Machine}
 use Rattle.mealy.specs.Setting.{Setting, anyState}
-use Rattle.coder.specs.Refusal.{pick, both, refuse, first, answer, allBelow}
+use Rattle.coder.specs.Refusal.{refuse, first, answer, allBelow}
 use Rattle.coder.specs.Limits.{maxStates, maxInputs, maxOutputs}
 use Rattle.coder.specs.declared.Header.{Header}
 use Rattle.coder.specs.declared.Header.the-variants.{Refused, Counts}
@@ -29,15 +29,15 @@ outputsOf f = getD f 5 0
 
 -- 1 to max
 unfoldable pub within : ℕ → ℕ → Bool
-within x max = both (leb 1 x) (leb x max)
+within x max = leb 1 x && leb x max
 
 -- Refusal 4's test: N, I and O are within the limits.
 unfoldable pub inRange : ℕ → ℕ → ℕ → Bool
-inRange n i o = both (within n maxStates) (both (within i maxInputs) (within o maxOutputs))
+inRange n i o = within n maxStates && (within i maxInputs && within o maxOutputs)
 
 -- Refusal 6's test of entry j, counted over all states: its next state and its output letter, bytes 6 + 2 j and 7 + 2 j.
 unfoldable pub entryInRange : List ℕ → ℕ → Bool
-entryInRange f j = both (ltb (getD f (6 + 2 * j) 0) (statesOf f)) (ltb (getD f (7 + 2 * j) 0) (outputsOf f))
+entryInRange f j = ltb (getD f (6 + 2 * j) 0) (statesOf f) && ltb (getD f (7 + 2 * j) 0) (outputsOf f)
 
 -- Refusals 1 to 5, by the file's length, version, count field, N, I and O.
 unfoldable pub headerRefusal : ℕ → ℕ → ℕ → ℕ → ℕ → ℕ → ℕ
@@ -66,7 +66,7 @@ partOf f = answer (fileRefusal f) (λ k. []) (drop 6 f)
 -- A byte of the entry of state s and input letter i, state by state and within a state input by input: the next state from
 -- byte 6 on, the output letter from byte 7 on. 0 where there is no such entry.
 unfoldable pub entryOf : List ℕ → ℕ → ℕ → ℕ → ℕ
-entryOf f base s i = pick (both (ltb s (statesOf f)) (ltb i (inputsOf f))) (getD f (base + 2 * (inputsOf f * s + i)) 0) 0
+entryOf f base s i = cond (ltb s (statesOf f) && ltb i (inputsOf f)) (getD f (base + 2 * (inputsOf f * s + i)) 0) 0
 
 -- The Mealy machine of an accepted file.
 unfoldable pub machineOf : List ℕ → Machine

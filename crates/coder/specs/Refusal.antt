@@ -1,18 +1,9 @@
 -- Refusals: a call goes down the list of numbers and takes the first that applies.
 use Prim.Native.Nat.{ℕ, zero, suc}
 use mathlib.Core.Path.{_≡_}
-use mathlib.Core.Bool.{Bool, true, false}
+use mathlib.Core.Bool.{Bool, true, false, _&&_}
 use mathlib.Core.List.{List, [], _∷_}
 use lib.Dec.{ltb}
-
--- Choice by a test: a where it holds, and b where it fails.
-abbrev pub pick : {A : Type 0} → Bool → A → A → A
-pick true a b = a
-pick false a b = b
-
-abbrev pub both : Bool → Bool → Bool
-both true b = b
-both false b = false
 
 -- The number k where the test shows that it applies, and otherwise what the rest of the list says. 0 is no refusal.
 abbrev pub refuse : Bool → ℕ → ℕ → ℕ
@@ -37,12 +28,12 @@ upon (suc k) refused done = refused (suc k)
 -- p holds of each number below n
 unfoldable pub allBelow : ℕ → (ℕ → Bool) → Bool
 allBelow zero p = true
-allBelow (suc n) p = both (p n) (allBelow n p)
+allBelow (suc n) p = p n && allBelow n p
 
 -- every letter is below n: the test behind refusals 12 and 13
 abbrev pub lettersBelow : ℕ → List ℕ → Bool
 lettersBelow n [] = true
-lettersBelow n (x ∷ xs) = both (ltb x n) (lettersBelow n xs)
+lettersBelow n (x ∷ xs) = ltb x n && lettersBelow n xs
 
 -- r says whether A holds
 pub record Judges (A : Type 0) (r : Bool) : Type 0 where

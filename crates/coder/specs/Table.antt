@@ -1,10 +1,10 @@
 -- The coder as the two tables that the code works on.
+use mathlib.Core.Bool.{cond}
 use Prim.Native.Nat.{ℕ, zero, suc, _*_, _+_, _/_, _%_, _<_, _≤_}
 use mathlib.Core.List.{List, [], _∷_}
 use lib.ListN.{getD}
 use lib.Dec.{ltb}
 use Rattle.mealy.specs.Machine.{Machine}
-use Rattle.coder.specs.Refusal.{pick}
 use Rattle.coder.specs.Limits.{maxStates, maxInputs, maxOutputs, maxSide}
 use Rattle.coder.specs.File.{statesOf, inputsOf, outputsOf, entryOf}
 use Rattle.coder.specs.declared.inner.tables.Coder.{Coder}
@@ -30,7 +30,7 @@ coderOf f =
 
 -- what a table holds for state s and letter i; 0 where it has no such place
 unfoldable pub tableAt : List ℕ → ℕ → ℕ → ℕ
-tableAt t s i = pick (ltb i 16) (getD t (16 * s + i) 0) 0
+tableAt t s i = cond (ltb i 16) (getD t (16 * s + i) 0) 0
 
 -- The machine in two tables. For an accepted file it is the file's machine (`machine-same` of proofs/Tables.antt).
 abbrev pub machineIn : ℕ → ℕ → List ℕ → List ℕ → Machine

@@ -1,13 +1,13 @@
 -- What a call that is not refused may rely on.
 use mathlib.Core.Path.{_≡_}
-use mathlib.Core.Bool.{Bool, true, not}
+use mathlib.Core.Bool.{Bool, true, not, _&&_}
 use mathlib.Core.List.{List}
 use Prim.Native.Nat.{ℕ, _+_, _≤_}
 use lib.ListN.{length}
 use lib.Dec.{lit<, leb, eqb}
 use borrow.Author.Tests.{leb-true, eqb-true}
 use Rattle.mealy.specs.Machine.{Letters}
-use Rattle.coder.specs.Refusal.{both, refuse, lettersBelow}
+use Rattle.coder.specs.Refusal.{refuse, lettersBelow}
 use Rattle.coder.specs.File.{fileRefusal, outputsOf}
 use Rattle.coder.proofs.Refusals.{both-true, refuse-not, first-none, letters-below}
 use Rattle.decoder.specs.Refusal.{sidesRefusal, windowRefusal, stringRefusal, tableSize, tableRefusal}
@@ -21,7 +21,7 @@ pub record SidesAccepted (f : List ℕ) (b a : ℕ) : Type 0 where
 pub sides-accepted : (f : List ℕ) (b a : ℕ) → sidesRefusal f b a ≡ 0 → SidesAccepted f b a
 unfolding sidesRefusal
 sides-accepted f b a e =
-    let t = both (leb b 136) (leb a 136) in
+    let t = (leb b 136 && leb a 136) in
     let p = first-none (fileRefusal f) (refuse (not t) 8 0) e in
     let q = refuse-not t _ _ (lit< tt) (p .1) in
     let s = both-true (leb b 136) (leb a 136) (q .0) in

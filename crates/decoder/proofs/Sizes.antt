@@ -1,13 +1,13 @@
 -- The size of the decoder table, and refusals 10 and 11 by that size.
 use mathlib.Core.Path.{_≡_, refl, ap, _∙_}
-use mathlib.Core.Bool.{Bool, true, false, not}
+use mathlib.Core.Bool.{Bool, true, false, not, _&&_}
 use Prim.Native.Nat.{ℕ, suc, _+_, _*_, _^_, _≤_, _<_}
 use native.Mathlib.Nat.{pow-suc, pow-le-pow-right, one-le-pow}
 use native.Mathlib.Numerals.{add-one}
 use native.Mathlib.Omega.{arith}
 use lib.Dec.{leb, eqb}
 use borrow.Author.Tests.{lt-leb, le-leb, eq-eqb, ne-eqb}
-use Rattle.coder.specs.Refusal.{refuse, both}
+use Rattle.coder.specs.Refusal.{refuse}
 use Rattle.decoder.specs.Table.{sizeOf}
 
 pub size-more : {s : ℕ} (o i : ℕ) → s ≡ o ^ i → s * o ≡ o ^ (i + 1)
@@ -26,14 +26,14 @@ size-all {s} {i} {n} o e l q = rw (← q, ← e, le-leb s 65536 l)
 -- refusals 10 and 11 by the size m that the code goes by
 pub by-size :
     (o n m room : ℕ) (others : Bool) → 1 ≤ o → m ≡ sizeOf o n →
-    refuse (not (leb (o ^ n) 65536)) 10 (refuse (not (both (leb (o ^ n) room) others)) 11 0)
-    ≡ refuse (eqb m 0) 10 (refuse (not (both (leb m room) others)) 11 0)
+    refuse (not (leb (o ^ n) 65536)) 10 (refuse (not (leb (o ^ n) room && others)) 11 0)
+    ≡ refuse (eqb m 0) 10 (refuse (not (leb m room && others)) 11 0)
 by-size o n m room others l e = go (leb (o ^ n) 65536) refl
   where
     go :
         (t : Bool) → leb (o ^ n) 65536 ≡ t →
-        refuse (not (leb (o ^ n) 65536)) 10 (refuse (not (both (leb (o ^ n) room) others)) 11 0)
-        ≡ refuse (eqb m 0) 10 (refuse (not (both (leb m room) others)) 11 0)
+        refuse (not (leb (o ^ n) 65536)) 10 (refuse (not (leb (o ^ n) room && others)) 11 0)
+        ≡ refuse (eqb m 0) 10 (refuse (not (leb m room && others)) 11 0)
     go true q =
         let z : m ≡ o ^ n = e ∙ rw q in
         rw (q, ne-eqb m 0 (λ (y : m ≡ 0). omega (arith, one-le-pow n o l)), z)

@@ -1,16 +1,16 @@
 -- The refusals of the three calls, each in checking order.
 use Prim.Native.Nat.{ℕ, _+_, _^_}
-use mathlib.Core.Bool.{Bool, not}
+use mathlib.Core.Bool.{Bool, not, _&&_}
 use mathlib.Core.List.{List}
 use lib.ListN.{length}
 use lib.Dec.{leb, eqb}
-use Rattle.coder.specs.Refusal.{both, refuse, first, lettersBelow}
+use Rattle.coder.specs.Refusal.{refuse, first, lettersBelow}
 use Rattle.coder.specs.Limits.{maxSide}
 use Rattle.coder.specs.File.{fileRefusal, outputsOf}
 
 -- 1 to 6 and 8: what every call with a window is refused for first.
 unfoldable pub sidesRefusal : List ℕ → ℕ → ℕ → ℕ
-sidesRefusal f b a = first (fileRefusal f) (refuse (not (both (leb b maxSide) (leb a maxSide))) 8 0)
+sidesRefusal f b a = first (fileRefusal f) (refuse (not (leb b maxSide && leb a maxSide)) 8 0)
 
 -- One window: then 9 (the number of letters), 11 (some lent buffer is too short) and 13 (a received letter). Whether all lent buffers
 -- are long enough is an argument: a call of the library lends none for a single window, a call from C lends its result.

@@ -1,4 +1,5 @@
 -- The decoder table: a byte for each window, by its index.
+use mathlib.Core.Bool.{cond}
 use Prim.Native.Nat.{ℕ, zero, suc, _+_, _*_, _^_, _/_, _%_, _≤_, _<_}
 use mathlib.Core.Path.{_≡_}
 use mathlib.Core.List.{List, [], _∷_}
@@ -6,7 +7,7 @@ use lib.ListN.{length, getD}
 use lib.Dec.{leb}
 use Rattle.mealy.specs.Setting.{Setting}
 use Rattle.mealy.specs.Answer.{byteOf}
-use Rattle.coder.specs.Refusal.{pick, answer}
+use Rattle.coder.specs.Refusal.{answer}
 use Rattle.coder.specs.declared.inner.tables.Coder.{Coder}
 use Rattle.coder.specs.File.{outputsOf}
 use Rattle.pass.specs.Answer.{meaning, RightByte}
@@ -44,7 +45,7 @@ pub record TablePromise (f : List ℕ) (b a : ℕ) (before : List ℕ) (r : Coun
 
 -- o to the power n, or 0 where that is above 65,536
 abbrev pub sizeOf : ℕ → ℕ → ℕ
-sizeOf o n = pick (leb (o ^ n) 65536) (o ^ n) 0
+sizeOf o n = cond (leb (o ^ n) 65536) (o ^ n) 0
 
 -- what the recursion over the letters asks: the part of the table has a byte for each window
 pub record FillAsked (next start entries : List ℕ) (states outputs left : ℕ) (table : List ℕ) : Type 0 where

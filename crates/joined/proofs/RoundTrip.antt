@@ -1,7 +1,7 @@
 -- Demand 2, last sentence, over the promises of the three calls: what the run wrote, decoded with the window that the search reports,
 -- is the input from the first letter that has a full window to the last.
 use mathlib.Core.Path.{_≡_, refl, sym, ap, _∙_}
-use mathlib.Core.Bool.{Bool, true, false}
+use mathlib.Core.Bool.{Bool, true, false, _&&_}
 use mathlib.Core.List.{List, [], _∷_, _++_}
 use Prim.Native.Nat.{ℕ, zero, suc, _+_, _≤_, _<_}
 use native.Mathlib.Omega.{arith}
@@ -13,7 +13,7 @@ use Rattle.mealy.specs.Machine.{Machine, outs, end, Letters}
 use Rattle.mealy.specs.Window.{Works}
 use Rattle.mealy.specs.Product.{pairs}
 use Rattle.mealy.proofs.Answers.{length-outs}
-use Rattle.coder.specs.Refusal.{both, lettersBelow, upon}
+use Rattle.coder.specs.Refusal.{lettersBelow, upon}
 use Rattle.coder.specs.File.{fileRefusal, statesOf, inputsOf, outputsOf, machineOf, settingOf}
 use Rattle.coder.specs.Run.{runRefusal, runRefusalIn, RunPromise}
 use Rattle.coder.specs.declared.RunResult.{RunResult}

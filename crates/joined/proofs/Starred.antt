@@ -1,6 +1,6 @@
 -- The starred cases hold: one computed test over the table, and a law from the test to each claim.
 use mathlib.Core.Path.{_≡_, refl, sym, ap, _∙_, subst}
-use mathlib.Core.Bool.{Bool, true, false}
+use mathlib.Core.Bool.{Bool, true, false, _&&_, cond}
 use mathlib.Core.List.{List, [], _∷_}
 use Prim.Native.Nat.{ℕ, zero, suc, _+_, _<_}
 use native.Mathlib.Omega.{arith}
@@ -13,7 +13,7 @@ use Rattle.mealy.specs.Answer.{byteOf}
 use Rattle.mealy.specs.LoopedPair.{LoopedPair}
 use Rattle.mealy.proofs.Plain.{any-closed}
 use Rattle.mealy.proofs.LoopedPairs.{excludes}
-use Rattle.coder.specs.Refusal.{pick, both, allBelow}
+use Rattle.coder.specs.Refusal.{allBelow}
 use Rattle.coder.specs.File.{within, inRange, entryInRange, headerRefusal, fileRefusal, entryOf, statesOf, inputsOf, outputsOf, machineOf, settingOf}
 use Rattle.coder.specs.Table.{table, coderOf, tableAt}
 use Rattle.coder.proofs.Refusals.{true-false, both-true, all-at}
@@ -65,11 +65,10 @@ unfoldable test : List ℕ → Claim → Bool
 test f (claimed.window b a) = leastTest (machineOf f) b a
 test f (claimed.no-decoder p) = validTest (machineOf f) p
 test f claimed.different-outputs = differentTest (machineOf f)
-test f (claimed.answer b w v) = both (ltb b (length w)) (sameAnswer (decoded (coderOf f) anyFlags w b) v)
+test f (claimed.answer b w v) = ltb b (length w) && sameAnswer (decoded (coderOf f) anyFlags w b) v
 test f (claimed.table b a bytes) =
-    both (eqb (length bytes) (tableSize (outputsOf f) b a))
-    (allBelow (length bytes) (λ k. eqb (getD bytes k 0) (entryByte f (b + 1 + a) b k)))
-test f (claimed.run s xs os e) = both (sameList (outs (machineOf f) s xs) os) (eqb (end (machineOf f) s xs) e)
+    (eqb (length bytes) (tableSize (outputsOf f) b a) && allBelow (length bytes) (λ k. eqb (getD bytes k 0) (entryByte f (b + 1 + a) b k)))
+test f (claimed.run s xs os e) = sameList (outs (machineOf f) s xs) os && eqb (end (machineOf f) s xs) e
 
 -- ---- from the test to the claim
 
@@ -105,11 +104,11 @@ claim-holds f z (claimed.run s xs os e′) e =
 
 abbrev testClaims : List ℕ → List Claim → Bool
 testClaims f [] = true
-testClaims f (c ∷ cs) = both (test f c) (testClaims f cs)
+testClaims f (c ∷ cs) = test f c && testClaims f cs
 
 abbrev testCases : List Case → Bool
 testCases [] = true
-testCases (c ∷ cs) = both (eqb (fileRefusal (c .file)) 0) (both (testClaims (c .file) (c .claims)) (testCases cs))
+testCases (c ∷ cs) = eqb (fileRefusal (c .file)) 0 && (testClaims (c .file) (c .claims) && testCases cs)
 
 claims-hold : (f : List ℕ) → fileRefusal f ≡ 0 → (cs : List Claim) → testClaims f cs ≡ true → AllHold f cs
 claims-hold f z [] e = tt
@@ -118,7 +117,7 @@ claims-hold f z (c ∷ cs) e = let t = both-true (test f c) (testClaims f cs) e 
 cases-hold : (cs : List Case) → testCases cs ≡ true → AllCases cs
 cases-hold [] e = tt
 cases-hold (c ∷ cs) e =
-    let t = both-true (eqb (fileRefusal (c .file)) 0) (both (testClaims (c .file) (c .claims)) (testCases cs)) e in
+    let t = both-true (eqb (fileRefusal (c .file)) 0) (testClaims (c .file) (c .claims) && testCases cs) e in
     let u = both-true (testClaims (c .file) (c .claims)) (testCases cs) (t .1) in
     let z = eqb-true (fileRefusal (c .file)) 0 (t .0) in
     (z, claims-hold (c .file) z (c .claims) (u .0), cases-hold cs (u .1))

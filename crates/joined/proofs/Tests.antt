@@ -1,6 +1,6 @@
 -- Computed tests of windows, pairs and answers, and laws from each test to what it shows.
 use mathlib.Core.Path.{_≡_, refl, sym, ap, ap₂, _∙_}
-use mathlib.Core.Bool.{Bool, true, false, not}
+use mathlib.Core.Bool.{Bool, true, false, not, _&&_, cond}
 use mathlib.Core.Logic.{_≢_}
 use mathlib.Core.List.{List, [], _∷_}
 use Prim.Native.Nat.{ℕ, zero, suc, _+_, _-_, _*_, _≤_, _<_}
@@ -15,7 +15,7 @@ use Rattle.mealy.specs.Window.{Works, SameLetter}
 use Rattle.mealy.specs.Order.{FewestLetters, Least}
 use Rattle.mealy.specs.LoopedPair.{LoopedPair, Run, first, second, letterAt, lettersFrom, mark, unlooped, letters, startOf, inputsOf, Valid}
 use Rattle.mealy.proofs.Plain.{works↔same-letter}
-use Rattle.coder.specs.Refusal.{pick, both, allBelow, lettersBelow}
+use Rattle.coder.specs.Refusal.{allBelow, lettersBelow}
 use Rattle.coder.proofs.Refusals.{true-false, both-true, all-at, letters-below}
 
 -- ---- lists
@@ -24,7 +24,7 @@ abbrev pub sameList : List ℕ → List ℕ → Bool
 sameList [] [] = true
 sameList [] (y ∷ ys) = false
 sameList (x ∷ xs) [] = false
-sameList (x ∷ xs) (y ∷ ys) = both (eqb x y) (sameList xs ys)
+sameList (x ∷ xs) (y ∷ ys) = eqb x y && sameList xs ys
 
 pub same-list : (xs ys : List ℕ) → sameList xs ys ≡ true → xs ≡ ys
 same-list [] [] e = refl
@@ -74,7 +74,7 @@ words-false i (suc n) p e =
     let w = words-false i n (λ xs. p (k .0 ∷ xs)) (k .2) in
     record { xs = k .0 ∷ w .xs; below = (k .1, w .below); long = ap suc (w .long); fails = w .fails }
 
-differs : (e d : Bool) → pick e d true ≡ false → (e ≡ true) × (d ≡ false)
+differs : (e d : Bool) → cond e d true ≡ false → (e ≡ true) × (d ≡ false)
 differs true d z = (refl, z)
 differs false d z = absurd (true-false refl z)
 
@@ -83,7 +83,7 @@ differs false d z = absurd (true-false refl z)
 module _ (M : Machine) (b a : ℕ) where
   -- runs that differ in output, or have one letter at place b
   unfoldable pub agree : ℕ → ℕ → List ℕ → List ℕ → Bool
-  agree s t xs ys = pick (sameList (outs M s xs) (outs M t ys)) (eqb (getD xs b 0) (getD ys b 0)) true
+  agree s t xs ys = cond (sameList (outs M s xs) (outs M t ys)) (eqb (getD xs b 0) (getD ys b 0)) true
 
   unfoldable pub worksTest : Bool
   worksTest =
@@ -121,10 +121,10 @@ module _ (M : Machine) (b a : ℕ) where
 module _ (M : Machine) (b a : ℕ) where
   -- of the windows of n + 1 letters, that with lookahead c does not come before b a, or does not work
   unfoldable pub later : ℕ → ℕ → Bool
-  later n c = pick (ltb n (b + a)) (not (worksTest M (n - c) c)) (pick (ltb c a) (not (worksTest M (n - c) c)) true)
+  later n c = cond (ltb n (b + a)) (not (worksTest M (n - c) c)) (cond (ltb c a) (not (worksTest M (n - c) c)) true)
 
   unfoldable pub leastTest : Bool
-  leastTest = both (worksTest M b a) (allBelow (b + a + 1) (λ n. allBelow (n + 1) (later n)))
+  leastTest = worksTest M b a && allBelow (b + a + 1) (λ n. allBelow (n + 1) (later n))
 
   pub least-test : leastTest ≡ true → Least FewestLetters (anyState M) b a
   unfolding leastTest later
@@ -155,19 +155,11 @@ module _ (M : Machine) (b a : ℕ) where
 module _ (M : Machine) (p : LoopedPair) where
   unfoldable pub closesTest : Run → Bool
   closesTest r =
-      both (ltb (startOf p r) (M .states))
-      (both (lettersBelow (M .inputs) (inputsOf p r))
-      (both (eqb (end M (startOf p r) (lettersFrom p r 0 (p .back-loop))) (startOf p r))
-      (eqb (end M (startOf p r) (inputsOf p r)) (end M (startOf p r) (lettersFrom p r 0 (unlooped p))))))
+      (ltb (startOf p r) (M .states) && (lettersBelow (M .inputs) (inputsOf p r) && (eqb (end M (startOf p r) (lettersFrom p r 0 (p .back-loop))) (startOf p r) && eqb (end M (startOf p r) (inputsOf p r)) (end M (startOf p r) (lettersFrom p r 0 (unlooped p))))))
 
   unfoldable pub validTest : Bool
   validTest =
-      both (leb (2 * letters p) (length (p .bytes)))
-      (both (ltb 0 (p .back-loop))
-      (both (ltb 0 (p .forward-loop))
-      (both (sameList (outs M (p .s) (inputsOf p first)) (outs M (p .t) (inputsOf p second)))
-      (both (not (eqb (letterAt p first (mark p)) (letterAt p second (mark p))))
-      (both (closesTest first) (closesTest second))))))
+      (leb (2 * letters p) (length (p .bytes)) && (ltb 0 (p .back-loop) && (ltb 0 (p .forward-loop) && (sameList (outs M (p .s) (inputsOf p first)) (outs M (p .t) (inputsOf p second)) && (not (eqb (letterAt p first (mark p)) (letterAt p second (mark p))) && (closesTest first && closesTest second))))))
 
   record ClosedRun (r : Run) : Type 0 where
     start : startOf p r < M .states
@@ -181,8 +173,8 @@ module _ (M : Machine) (p : LoopedPair) where
       let f = eqb (end M (startOf p r) (inputsOf p r)) (end M (startOf p r) (lettersFrom p r 0 (unlooped p))) in
       let b = eqb (end M (startOf p r) (lettersFrom p r 0 (p .back-loop))) (startOf p r) in
       let l = lettersBelow (M .inputs) (inputsOf p r) in
-      let x = both-true (ltb (startOf p r) (M .states)) (both l (both b f)) e in
-      let y = both-true l (both b f) (x .1) in
+      let x = both-true (ltb (startOf p r) (M .states)) (l && (b && f)) e in
+      let y = both-true l (b && f) (x .1) in
       let z = both-true b f (y .1) in
       record {
         start = ltb-true _ _ (x .0);
@@ -194,15 +186,15 @@ module _ (M : Machine) (p : LoopedPair) where
   pub valid-test : validTest ≡ true → Valid (anyState M) p
   unfolding validTest
   valid-test e =
-      let c = both (closesTest first) (closesTest second) in
+      let c = (closesTest first && closesTest second) in
       let d = not (eqb (letterAt p first (mark p)) (letterAt p second (mark p))) in
       let o = sameList (outs M (p .s) (inputsOf p first)) (outs M (p .t) (inputsOf p second)) in
       let f = ltb 0 (p .forward-loop) in
       let b = ltb 0 (p .back-loop) in
-      let x = both-true (leb (2 * letters p) (length (p .bytes))) (both b (both f (both o (both d c)))) e in
-      let y = both-true b (both f (both o (both d c))) (x .1) in
-      let z = both-true f (both o (both d c)) (y .1) in
-      let u = both-true o (both d c) (z .1) in
+      let x = both-true (leb (2 * letters p) (length (p .bytes))) (b && (f && (o && (d && c)))) e in
+      let y = both-true b (f && (o && (d && c))) (x .1) in
+      let z = both-true f (o && (d && c)) (y .1) in
+      let u = both-true o (d && c) (z .1) in
       let v = both-true d c (u .1) in
       let w = both-true (closesTest first) (closesTest second) (v .1) in
       let run : (r : Run) → ClosedRun r = λ r. elim r [ first ↦ closed-run first (w .0) | second ↦ closed-run second (w .1) ] in
@@ -224,12 +216,12 @@ module _ (M : Machine) where
   unfoldable pub differentTest : Bool
   differentTest =
       allBelow (M .states) (λ s. allBelow (M .inputs) (λ i. allBelow (M .inputs) (λ j.
-      pick (eqb i j) true (not (eqb (M .out s i) (M .out s j))))))
+      cond (eqb i j) true (not (eqb (M .out s i) (M .out s j))))))
 
   pub different-test : differentTest ≡ true → (s i j : ℕ) → s < M .states → i < M .inputs → j < M .inputs → i ≢ j → M .out s i ≢ M .out s j
   unfolding differentTest
   different-test e s i j l m n d =
-      let row : ℕ → ℕ → ℕ → Bool = λ s i j. pick (eqb i j) true (not (eqb (M .out s i) (M .out s j))) in
+      let row : ℕ → ℕ → ℕ → Bool = λ s i j. cond (eqb i j) true (not (eqb (M .out s i) (M .out s j))) in
       let u = all-at (M .states) (λ s. allBelow (M .inputs) (λ i. allBelow (M .inputs) (row s i))) e s l in
       let v = all-at (M .inputs) (λ i. allBelow (M .inputs) (row s i)) u i m in
       let w = all-at (M .inputs) (row s i) v j n in

@@ -1,9 +1,8 @@
 -- The layout of the result buffer, which docs/c-interface.md describes.
 use Prim.Native.Nat.{ℕ, _*_, _/_, _%_}
-use mathlib.Core.Bool.{Bool}
+use mathlib.Core.Bool.{Bool, cond}
 use mathlib.Core.List.{List, [], _∷_, _++_}
 use lib.ListN.{length, drop}
-use Rattle.coder.specs.Refusal.{pick}
 use Rattle.search.specs.declared.Verdict.{Verdict}
 use Rattle.search.specs.declared.Verdict.the-variants.{Least, NoDecoder}
 
@@ -32,4 +31,4 @@ verdictFields (NoDecoder p) =
 
 -- The number of a yes or a no.
 abbrev pub numberOf : Bool → ℕ
-numberOf b = pick {A = ℕ} b 1 0
+numberOf b = cond {A = ℕ} b 1 0

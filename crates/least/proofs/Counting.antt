@@ -1,6 +1,6 @@
 -- Counting the conflicting edges, one at a time.
 use mathlib.Core.Path.{_≡_, refl, sym, ap, _∙_}
-use mathlib.Core.Bool.{Bool, true, false}
+use mathlib.Core.Bool.{Bool, true, false, _&&_}
 use mathlib.Core.List.{List}
 use Prim.Native.Nat.{ℕ, suc, _+_, _-_, _*_, _/_, _%_, _≤_, _<_}
 use native.Mathlib.Omega.{arith}
@@ -9,7 +9,6 @@ use lib.ListN.{length, getD, set, length-set}
 use lib.Seq.{getD-set-same, getD-set-other}
 use lib.Dec.{ltb, eqb}
 use borrow.Author.Tests.{ltb-true, ltb-false, eqb-true, eq-eqb}
-use Rattle.coder.specs.Refusal.{both}
 use Rattle.coder.proofs.Refusals.{both-true}
 use Rattle.coder.specs.Table.{Sound}
 use Rattle.coder.specs.declared.inner.tables.Coder.{Coder}
@@ -76,7 +75,7 @@ module _ (next : List ℕ) (backs forwards : List (List ℕ)) (p q : ℕ) (befor
   forward-is : f ≡ forwardOf next forwards p q
   forward-is = ef ∙ rw (eu, ev)
 
-  pub count-both : both (eqb (backOf backs p q) 255) (eqb f 255) ≡ true → CountedOne next backs forwards p q before true before
+  pub count-both : (eqb (backOf backs p q) 255 && eqb f 255) ≡ true → CountedOne next backs forwards p q before true before
   count-both e =
       let b = both-true _ _ e in
       record {
@@ -88,7 +87,7 @@ module _ (next : List ℕ) (backs forwards : List (List ℕ)) (p q : ℕ) (befor
       }
 
   pub count-one :
-      both (eqb (backOf backs p q) 255) (eqb f 255) ≡ false → {after : List ℕ} → after ≡ raised before f (backOf backs p q) →
+      (eqb (backOf backs p q) 255 && eqb f 255) ≡ false → {after : List ℕ} → after ≡ raised before f (backOf backs p q) →
       CountedOne next backs forwards p q before false after
   count-one e r =
       record {

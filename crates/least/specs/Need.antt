@@ -1,13 +1,12 @@
 -- The letters before that each lookahead needs, by the depths of the conflicting edges.
 use Prim.Native.Nat.{ℕ, suc, _/_, _%_, _≤_, _<_}
 use mathlib.Core.Path.{_≡_}
-use mathlib.Core.Bool.{Bool, true, false}
+use mathlib.Core.Bool.{Bool, true, false, cond}
 use mathlib.Core.List.{List}
 use mathlib.Core.Logic.{_≢_}
 use lib.ListN.{length, getD, set}
 use lib.Dec.{ltb}
 use Rattle.mealy.specs.Order.{FewestLetters}
-use Rattle.coder.specs.Refusal.{pick}
 use Rattle.coder.specs.Table.{Sound}
 use Rattle.coder.specs.declared.inner.tables.Coder.{Coder}
 use Rattle.chains.specs.Chain.{isEntry, hasKey, lastBelow, Chained}
@@ -52,7 +51,7 @@ Sources c backs forwards worst = (f : ℕ) → 0 < getD worst f 0 → Source c b
 
 -- the table with x taken in at f
 unfoldable pub raised : List ℕ → ℕ → ℕ → List ℕ
-raised worst f x = pick (ltb (getD worst f 0) x) (set worst f x) worst
+raised worst f x = cond (ltb (getD worst f 0) x) (set worst f x) worst
 
 -- `later` has at least what `worst` has
 abbrev pub Grows : List ℕ → List ℕ → Type 0

@@ -1,10 +1,10 @@
 // No public calls: the letters before that each lookahead needs, and the choice among the candidates.
+ghost use mathlib.Core.Bool.{_&&_};
 ghost use mathlib.Core.Path.{_≡_};
 ghost use Prim.Native.Nat.{_<_, max};
 ghost use Rattle.coder.specs.declared.inner.tables.Coder.{Coder as CoderOf};
 ghost use lib.ListN.{getD};
 ghost use lib.Dec.{eqb};
-ghost use Rattle.coder.specs.Refusal.{both};
 ghost use Rattle.least.specs.Need.{raised, CountAsked, CountedOne, RowAsked, RowOf, RowDone, ConflictsAsked, ConflictsDone, Needs, Chosen};
 use crate::Window;
 use chains::inner::wide;
@@ -48,7 +48,7 @@ fn count<'a>(
 
 // Whether both depths are endless.
 fn endless(b: u8, f: usize) -> bool
-    ensures { λ r. ⌜ r ≡ both (eqb b 255) (eqb f 255) ⌝ }
+    ensures { λ r. ⌜ r ≡ (eqb b 255 && eqb f 255) ⌝ }
 {
     if b == 255 {
         return f == 255;

@@ -1,6 +1,6 @@
 -- The looped pair of two walks from a conflicting edge, back and forward along endless pairs.
 use mathlib.Core.Path.{_≡_, refl, sym, ap, _∙_}
-use mathlib.Core.Bool.{true, false}
+use mathlib.Core.Bool.{true, false, cond}
 use mathlib.Core.List.{List}
 use Prim.Native.Nat.{ℕ, suc, _+_, _*_, _-_, _/_, _%_, _≤_, _<_}
 use native.Mathlib.Decide.{decLt, ℕ-discrete}
@@ -14,7 +14,6 @@ use Rattle.mealy.specs.Setting.{Setting, flagged}
 use Rattle.mealy.specs.Product.{Edge, back, forward}
 use Rattle.mealy.specs.LoopedPair.{Run, first, second, letterAt, letters}
 use Rattle.mealy.proofs.Places.{ValidPlaces, valid-places}
-use Rattle.coder.specs.Refusal.{pick}
 use Rattle.coder.specs.Table.{machineOfCoder}
 use Rattle.coder.specs.declared.inner.tables.Coder.{Coder}
 use Rattle.chains.specs.Chain.{isEntry}
@@ -137,7 +136,7 @@ module _ (c : Coder) (flags : List ℕ) {bx by fx fy : List ℕ} {e : product.Ed
 
       -- the pair before place k
       pairAt : ℕ → ℕ
-      pairAt k = pick (ltb B k) (Forward (k - suc B)) (Back (B - k))
+      pairAt k = cond (ltb B k) (Forward (k - suc B)) (Back (B - k))
 
       pair-back : (k r : ℕ) → k + r ≡ B → pairAt k ≡ Back r
       unfolding pairAt

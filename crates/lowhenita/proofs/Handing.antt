@@ -1,7 +1,7 @@
 -- From what the library's call promises to what the call from C promises: where the result buffer is too short, where the library's call
 -- refuses, and where it gives an answer.
 use mathlib.Core.Path.{_≡_, refl, sym, ap, ap₂, _∙_}
-use mathlib.Core.Bool.{Bool, true, false, not}
+use mathlib.Core.Bool.{Bool, true, false, not, _&&_}
 use mathlib.Core.List.{List, [], _∷_}
 use Prim.Native.Nat.{ℕ, zero, suc, _*_, _≤_, _<_}
 use native.Mathlib.Omega.{arith}
@@ -11,7 +11,7 @@ use borrow.Author.Tests.{le-leb, lt-leb}
 use Rattle.mealy.specs.Machine.{end}
 use Rattle.mealy.specs.Answer.{byteOf}
 use Rattle.mealy.specs.LoopedPair.{LoopedPair, letters, Valid}
-use Rattle.coder.specs.Refusal.{both, refuse, answer, upon, Judges}
+use Rattle.coder.specs.Refusal.{refuse, answer, upon, Judges}
 use Rattle.coder.specs.File.{fileRefusal, statesOf, outputsOf, machineOf, settingOf}
 use Rattle.coder.specs.Run.{runRefusal, runRefusalIn, RunPromise}
 use Rattle.coder.specs.declared.RunResult.{RunResult}
@@ -42,10 +42,10 @@ use Rattle.lowhenita.specs.Host.{roomy, runNumber, RunHosted, searchNumb
 
 -- ---- the result buffer beside the others
 
-with-room : (t : Bool) (result : List ℕ) → 64 ≤ length result → both t (roomy result) ≡ t
-with-room t result l = ap (both t) (le-leb 64 (length result) l) ∙ both-right t
+with-room : (t : Bool) (result : List ℕ) → 64 ≤ length result → (t && roomy result) ≡ t
+with-room t result l = ap (λ u. t && u) (le-leb 64 (length result) l) ∙ both-right t
 
-without-room : (t : Bool) (result : List ℕ) → length result < 64 → both t (roomy result) ≡ false
+without-room : (t : Bool) (result : List ℕ) → length result < 64 → (t && roomy result) ≡ false
 without-room t result l = both-false t (roomy result) (lt-leb 64 (length result) l)
 
 -- ---- refusals
@@ -174,11 +174,11 @@ module _ (f : List ℕ) (b a : ℕ) (w before result : List ℕ) where
 
   pub decode-too-short :
       length result < 64 → (k : ℕ) →
-      k ≡ stringRefusal f b a w (both (leb (places (length w) b a) (length before)) false) →
+      k ≡ stringRefusal f b a w (leb (places (length w) b a) (length before) && false) →
       DecodeHosted f b a w before result k before result
   decode-too-short l k e =
       let h =
-      refuses-as (ap (λ (t : Bool). stringRefusal f b a w (both string-room t)) (lt-leb 64 (length result) l))
+      refuses-as (ap (λ (t : Bool). stringRefusal f b a w (string-room && t)) (lt-leb 64 (length result) l))
       record { is = e; some = λ z. true-false (string-accepted f b a w _ z .fits) (both-false string-room false refl) } in
       record { number = h .is; bytes = upon-stays _ _ _ h refl; fields = stays _ _ _ h }
 
@@ -211,11 +211,11 @@ module _ (f : List ℕ) (b a : ℕ) (before result : List ℕ) where
 
   pub table-too-short :
       length result < 64 → (k : ℕ) →
-      k ≡ tableRefusal f b a (both (leb (tableSize (outputsOf f) b a) (length before)) false) →
+      k ≡ tableRefusal f b a (leb (tableSize (outputsOf f) b a) (length before) && false) →
       TableHosted f b a before result k before result
   table-too-short l k e =
       let h =
-      refuses-as (ap (λ (t : Bool). tableRefusal f b a (both table-room t)) (lt-leb 64 (length result) l))
+      refuses-as (ap (λ (t : Bool). tableRefusal f b a (table-room && t)) (lt-leb 64 (length result) l))
       record { is = e; some = λ z. true-false (table-accepted f b a _ z .fits) (both-false table-room false refl) } in
       record { number = h .is; bytes = upon-stays _ _ _ h refl; fields = stays _ _ _ h }
 
@@ -260,7 +260,7 @@ module _ (f : List ℕ) (p : LoopedPair) (result : List ℕ) where
   check-none : checkRefusal f p false ≡ 0 → ⊥
   unfolding checkRefusal
   check-none e =
-      let starts = both (ltb (p .s) (statesOf f)) (ltb (p .t) (statesOf f)) in
+      let starts = (ltb (p .s) (statesOf f) && ltb (p .t) (statesOf f)) in
       let size = eqb (length (p .bytes)) (2 * letters p) in
       let u = first-none (fileRefusal f) (refuse (not starts) 7 (refuse (not size) 9 11)) e in
       let v = refuse-none (not starts) 7 (refuse (not size) 9 11) (lit< tt) (u .1) in

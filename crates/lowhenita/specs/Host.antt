@@ -3,7 +3,7 @@
 -- buffer and the result buffer are; upon refusal all buffers stay.
 use Prim.Native.Nat.{ℕ, _+_}
 use mathlib.Core.Path.{_≡_}
-use mathlib.Core.Bool.{Bool}
+use mathlib.Core.Bool.{Bool, _&&_}
 use mathlib.Core.List.{List, [], _∷_, _++_}
 use lib.ListN.{length, drop}
 use lib.Dec.{leb}
@@ -11,7 +11,7 @@ use Rattle.mealy.specs.Machine.{outs, end}
 use Rattle.mealy.specs.Setting.{Setting}
 use Rattle.mealy.specs.Answer.{byteOf}
 use Rattle.mealy.specs.LoopedPair.{LoopedPair, Valid}
-use Rattle.coder.specs.Refusal.{both, answer, upon, Judges}
+use Rattle.coder.specs.Refusal.{answer, upon, Judges}
 use Rattle.coder.specs.File.{outputsOf, machineOf, settingOf}
 use Rattle.coder.specs.Run.{runRefusal}
 use Rattle.pass.specs.Answer.{meaning, Right}
@@ -32,7 +32,7 @@ roomy result = leb 64 (length result)
 -- ---- the coder run
 
 abbrev pub runNumber : List ℕ → ℕ → List ℕ → List ℕ → List ℕ → ℕ
-runNumber f s xs before result = runRefusal f s xs (both (leb (length xs) (length before)) (roomy result))
+runNumber f s xs before result = runRefusal f s xs (leb (length xs) (length before) && roomy result)
 
 -- Demand 2, first sentence, for a host: an output letter for each input letter; field 0 is the number of letters written and field 1 the
 -- end state ("Numbers of refusal", the sentence on counts).
@@ -46,7 +46,7 @@ pub record RunHosted (f : List ℕ) (s : ℕ) (xs before result : List ℕ) (r :
 -- ---- the window search
 
 abbrev pub searchNumber : List ℕ → List ℕ → List ℕ → ℕ
-searchNumber f before result = searchRefusal f (both (leb wanted (length before)) (roomy result))
+searchNumber f before result = searchRefusal f (leb wanted (length before) && roomy result)
 
 -- the lent buffers as they were
 pub record BothStay (before result after result′ : List ℕ) : Type 0 where
@@ -71,7 +71,7 @@ pub record SearchHosted (f before result : List ℕ) (r : ℕ) (after result′ 
 -- ---- the string decoder
 
 abbrev pub decodeNumber : List ℕ → ℕ → ℕ → List ℕ → List ℕ → List ℕ → ℕ
-decodeNumber f b a w before result = stringRefusal f b a w (both (leb (places (length w) b a) (length before)) (roomy result))
+decodeNumber f b a w before result = stringRefusal f b a w (leb (places (length w) b a) (length before) && roomy result)
 
 -- "Decoding", the sentence on strings, for a host: a right byte for each place with a full window; field 0 is the number of bytes
 -- written.
@@ -119,7 +119,7 @@ pub record WindowHosted (f : List ℕ) (b a : ℕ) (w result : List ℕ) (r : �
 -- ---- the decoder table
 
 abbrev pub tableNumber : List ℕ → ℕ → ℕ → List ℕ → List ℕ → ℕ
-tableNumber f b a before result = tableRefusal f b a (both (leb (tableSize (outputsOf f) b a) (length before)) (roomy result))
+tableNumber f b a before result = tableRefusal f b a (leb (tableSize (outputsOf f) b a) (length before) && roomy result)
 
 -- "Decoding", the sentences on the table, for a host: a right byte at each index; field 0 is the table's size.
 pub record TableHosted (f : List ℕ) (b a : ℕ) (before result : List ℕ) (r : ℕ) (after result′ : List ℕ) : Type 0 where

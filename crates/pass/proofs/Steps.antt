@@ -1,6 +1,6 @@
 -- The loops of the pass, one turn at a time.
 use mathlib.Core.Path.{_≡_, refl, sym, _∙_}
-use mathlib.Core.Bool.{Bool, true}
+use mathlib.Core.Bool.{Bool, true, cond}
 use mathlib.Core.List.{List, [], _∷_}
 use Prim.Native.Nat.{ℕ, suc, pred, _+_, _-_, _*_, _/_, _%_, _^_, _≤_, _<_}
 use native.Mathlib.Numerals.{add-one}
@@ -11,7 +11,6 @@ use lib.Seq.{getD-set-same, getD-set-other, ext-getD, take-all}
 use borrow.Author.Tests.{eq-eqb, ne-eqb}
 use borrow.Author.Count.{below-more}
 use Rattle.coder.proofs.Tables.{next-high}
-use Rattle.coder.specs.Refusal.{pick}
 use Rattle.coder.specs.Table.{table}
 use Rattle.coder.specs.declared.inner.tables.Coder.{Coder}
 use Rattle.coder.proofs.Fill.{length-table, getD-table}
@@ -49,7 +48,7 @@ module _ (u : ℕ) (n : u ≡ 0 → ⊥) where
 
 -- the set of state s before the first letter
 abbrev pub startSet : List ℕ → ℕ → ℕ
-startSet flags s = pick (eqb (getD flags s 0) 1) 1 0
+startSet flags s = cond (eqb (getD flags s 0) 1) 1 0
 
 -- the first s of the sets before the first letter are made, the others are empty
 pub record Started (flags : List ℕ) (s : ℕ) (v : List ℕ) : Type 0 where

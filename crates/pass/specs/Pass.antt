@@ -2,13 +2,12 @@
 -- of the letters at the present place over the runs that have come to that state: bit x is set where letter x is in the set.
 use Prim.Native.Nat.{ℕ, zero, suc, pred, _-_, _/_, _%_, _^_}
 use mathlib.Core.Path.{_≡_}
-use mathlib.Core.Bool.{Bool}
+use mathlib.Core.Bool.{Bool, cond}
 use mathlib.Core.List.{List, [], _∷_}
 use lib.Bits.{bitOr}
 use lib.Count.{leadingZeros}
 use lib.ListN.{getD, set, replicate}
 use lib.Dec.{eqb}
-use Rattle.coder.specs.Refusal.{pick}
 use Rattle.coder.specs.Table.{table, Sound}
 use Rattle.coder.specs.declared.inner.tables.Coder.{Coder}
 use Rattle.chains.specs.Chain.{hasKey, over}
@@ -23,7 +22,7 @@ union u v = bitOr u v
 -- The entry at place p leads from state p / 16 on letter p % 16. What the set u of that state gives to the next state: nothing
 -- where it is empty, and at the present place the letter itself.
 unfoldable pub given : Bool → ℕ → ℕ → ℕ
-given here p u = pick (eqb u 0) 0 (pick here (2 ^ (p % 16)) u)
+given here p u = cond (eqb u 0) 0 (cond here (2 ^ (p % 16)) u)
 
 unfoldable pub add : List ℕ → List ℕ → Bool → List ℕ → ℕ → List ℕ
 add next v here to p =
@@ -44,7 +43,7 @@ pass c v (o ∷ w) p = pass c (advance c v o (eqb p 1)) w (pred p)
 
 -- before the first letter: the set of letter 0 for the states whose flag is 1, the empty set for the others
 abbrev pub startSets : List ℕ → List ℕ
-startSets flags = table 16 (λ s. pick (eqb (getD flags s 0) 1) 1 0)
+startSets flags = table 16 (λ s. cond (eqb (getD flags s 0) 1) 1 0)
 
 -- the union over the first n states
 unfoldable pub unionOf : ℕ → List ℕ → ℕ
@@ -57,7 +56,7 @@ greatest u = 15 - leadingZeros 16 u
 
 -- the answer that a set stands for
 unfoldable pub answerOf : ℕ → Answer
-answerOf u = pick (eqb u 0) None (pick (eqb u (2 ^ greatest u)) (Letter (greatest u)) Several)
+answerOf u = cond (eqb u 0) None (cond (eqb u (2 ^ greatest u)) (Letter (greatest u)) Several)
 
 unfoldable pub decoded : Coder → List ℕ → List ℕ → ℕ → Answer
 decoded c flags w b = answerOf (unionOf (c .states) (pass c (startSets flags) w (suc b)))

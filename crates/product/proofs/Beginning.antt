@@ -1,6 +1,6 @@
 -- Before the first round: the start square and the first edges, place by place.
 use mathlib.Core.Path.{_≡_, refl, ap, _∙_}
-use mathlib.Core.Bool.{Bool, true, false}
+use mathlib.Core.Bool.{Bool, true, false, cond}
 use mathlib.Core.List.{List, []}
 use Prim.Native.Nat.{ℕ, _+_, _*_, _/_, _%_, _≤_, _<_}
 use native.Mathlib.Omega.{arith}
@@ -8,7 +8,6 @@ use native.Mathlib.Decide.{ℕ-discrete, decLt}
 use borrow.Author.Count.{below-more}
 use lib.ListN.{length, getD, set, replicate, length-set, getD-replicate}
 use lib.Seq.{getD-set-same, getD-set-other}
-use Rattle.coder.specs.Refusal.{pick}
 use Rattle.product.specs.Depth.{at, Square}
 use Rattle.product.specs.Rounds.{Kept, FirstEdges}
 use Rattle.product.proofs.Squares.{put, put-same, put-other, put-square}
@@ -21,7 +20,7 @@ zeros = replicate 16 (replicate 16 0)
 module _ (test : ℕ → ℕ → Bool) where
   pub record FilledTo (a : ℕ) (d : List (List ℕ)) : Type 0 where
     pub shape : Square d
-    pub is : (u v : ℕ) → u < 16 → v < 16 → 16 * u + v < a → at d u v ≡ pick (test u v) 255 0
+    pub is : (u v : ℕ) → u < 16 → v < 16 → 16 * u + v < a → at d u v ≡ cond (test u v) 255 0
     pub zero-from : (u v : ℕ) → u < 16 → v < 16 → a ≤ 16 * u + v → at d u v ≡ 0
 
   zero-at : (u v : ℕ) → u < 16 → v < 16 → at zeros u v ≡ 0
@@ -62,7 +61,7 @@ module _ (test : ℕ → ℕ → Bool) where
   -- where the test fails from place a on, that is all
   pub filled-all :
       {a : ℕ} {d : List (List ℕ)} → FilledTo a d → ((u v : ℕ) → a ≤ 16 * u + v → v < 16 → test u v ≡ false) → (u v : ℕ) → u < 16 → v < 16 →
-      at d u v ≡ pick (test u v) 255 0
+      at d u v ≡ cond (test u v) 255 0
   filled-all {a} f none u v l m = elim (decLt (16 * u + v) a) [
     | yes n ↦ f .is u v l m n
     | no n ↦ f .zero-from u v l m (omega arith) ∙ rw (none u v (omega arith) m)

@@ -1,6 +1,6 @@
 -- From the first round to the last: what the rounds start from, from one round to the next, and the depths at their end.
 use mathlib.Core.Path.{_≡_, refl, _∙_}
-use mathlib.Core.Bool.{Bool, true, false}
+use mathlib.Core.Bool.{Bool, true, false, _&&_}
 use mathlib.Core.List.{List}
 use mathlib.Core.Logic.{Dec·and}
 use Prim.Native.Nat.{ℕ, suc, _+_, _*_, _/_, _≤_, _<_}
@@ -14,7 +14,6 @@ use Rattle.mealy.specs.Setting.{Setting, Bounded, flagged}
 use Rattle.mealy.specs.Product.{Direction, back, forward, Settled, pairs}
 use Rattle.mealy.proofs.Levels.{level-start, level-fall, endless}
 use Rattle.mealy.proofs.Settling.{settled-by}
-use Rattle.coder.specs.Refusal.{both}
 use Rattle.coder.specs.Table.{machineOfCoder, Sound}
 use Rattle.coder.specs.declared.inner.tables.Coder.{Coder}
 use Rattle.coder.proofs.Refusals.{both-true}
@@ -80,10 +79,10 @@ module _ (c : Coder) (d : Direction) (flags : List ℕ) (sound : Sound c) where
 
   module _ {square : List (List ℕ)} (h : Started (c .states) flags square) where
     right-start : (u v : ℕ) → u < 16 → v < 16 → RightTo (λ m. L m u v) 0 (at square u v)
-    right-start u v l m = go (both (startFlag (c .states) flags u) (startFlag (c .states) flags v)) refl
+    right-start u v l m = go (startFlag (c .states) flags u && startFlag (c .states) flags v) refl
       where
         go :
-            (b : Bool) → both (startFlag (c .states) flags u) (startFlag (c .states) flags v) ≡ b →
+            (b : Bool) → (startFlag (c .states) flags u && startFlag (c .states) flags v) ≡ b →
             RightTo (λ m. L m u v) 0 (at square u v)
         go true e =
             let x : at square u v ≡ 255 = h .is u v l m ∙ rw e in

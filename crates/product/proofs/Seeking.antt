@@ -1,6 +1,6 @@
 -- The search for an edge of a pair whose far ends stand, from one edge to the next.
 use mathlib.Core.Path.{_≡_, refl, sym, ap, _∙_}
-use mathlib.Core.Bool.{Bool, true, false}
+use mathlib.Core.Bool.{Bool, true, false, _&&_}
 use mathlib.Core.List.{List}
 use Prim.Native.Nat.{ℕ, suc, _-_, _≤_, _<_}
 use native.Mathlib.Omega.{arith}
@@ -9,7 +9,6 @@ use lib.ListN.{getD}
 use lib.Dec.{ltb, eqb}
 use borrow.Author.Tests.{eq-eqb, lt-ltb, eqb-true, ltb-true}
 use Rattle.mealy.specs.Product.{Direction}
-use Rattle.coder.specs.Refusal.{both}
 use Rattle.coder.proofs.Refusals.{both-true}
 use Rattle.coder.specs.Table.{Sound}
 use Rattle.coder.specs.declared.inner.tables.Coder.{Coder}
@@ -167,7 +166,7 @@ module _ {c : Coder} {d : Direction} {last previous output far′ : List ℕ} (a
 module _ {c : Coder} {d : Direction} {last previous output far′ : List ℕ} (arrays : ArraysOf c d last previous output far′)
     (square : List (List ℕ)) (n : ℕ) {u v x y : ℕ} (k : Seeking c d (Above square n) u v x y) where
   abbrev test : Bool
-  test = both (eqb (getD output (x - 1) 0) (getD output (y - 1) 0)) (ltb n (at square (getD far′ (x - 1) 0) (getD far′ (y - 1) 0)))
+  test = eqb (getD output (x - 1) 0) (getD output (y - 1) 0) && ltb n (at square (getD far′ (x - 1) 0) (getD far′ (y - 1) 0))
 
   pub passed : {y′ : ℕ} → 0 < x → 0 < y → test ≡ false → y′ ≡ getD previous (y - 1) 0 → Seeking c d (Above square n) u v x y′
   passed l m e = edge-step arrays k l m (λ j s.

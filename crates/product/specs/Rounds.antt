@@ -1,13 +1,12 @@
 -- The rounds that find the depths, with for each pair the edge that keeps it standing.
 use Prim.Native.Nat.{ℕ, suc, _+_, _*_, _≤_, _<_}
 use mathlib.Core.Path.{_≡_}
-use mathlib.Core.Bool.{Bool, true, false}
+use mathlib.Core.Bool.{Bool, true, false, _&&_, cond}
 use mathlib.Core.List.{List}
 use lib.ListN.{length, getD}
 use lib.Dec.{ltb, eqb}
 use Rattle.mealy.specs.Setting.{flagged}
 use Rattle.mealy.specs.Product.{Direction, Level}
-use Rattle.coder.specs.Refusal.{pick, both}
 use Rattle.coder.specs.Table.{machineOfCoder, Sound}
 use Rattle.coder.specs.declared.inner.tables.Coder.{Coder}
 use Rattle.chains.specs.Chain.{hasKey}
@@ -117,12 +116,12 @@ pub record Rounded (c : Coder) (d : Direction) (flags : List ℕ) (k : ℕ) (squ
 
 -- whether both states of a pair are start states
 abbrev pub startFlag : ℕ → List ℕ → ℕ → Bool
-startFlag n flags s = both (ltb s n) (eqb (getD flags s 0) 1)
+startFlag n flags s = ltb s n && eqb (getD flags s 0) 1
 
 -- Before the first round: depth 255 for the pairs of start states, 0 for the others.
 pub record Started (n : ℕ) (flags : List ℕ) (square : List (List ℕ)) : Type 0 where
   pub shape : Square square
-  pub is : (u v : ℕ) → u < 16 → v < 16 → at square u v ≡ pick (both (startFlag n flags u) (startFlag n flags v)) 255 0
+  pub is : (u v : ℕ) → u < 16 → v < 16 → at square u v ≡ cond (startFlag n flags u && startFlag n flags v) 255 0
 
 -- the first edge of each pair whose first state is below n
 pub record FirstEdges (last : List ℕ) (n : ℕ) (xs ys : List ℕ) : Type 0 where

@@ -2,13 +2,12 @@
 //
 // One code for both directions: `far` has the far end of each entry, and `last` and `previous` chain the entries by their near ends.
 ghost use mathlib.Core.Path.{_≡_};
-ghost use mathlib.Core.Bool.{Bool};
+ghost use mathlib.Core.Bool.{Bool, _&&_};
 ghost use Prim.Native.Nat.{ℕ, _+_, _<_, _≤_};
 ghost use lib.ListN.{getD};
 ghost use lib.Dec.{ltb, eqb};
 ghost use Rattle.mealy.specs.Product.{Direction, back as backward, forward as onward};
 ghost use Rattle.coder.specs.Table.{Sound};
-ghost use Rattle.coder.specs.Refusal.{both};
 ghost use Rattle.coder.specs.declared.inner.tables.Coder.{Coder as CoderOf};
 ghost use Rattle.product.specs.Depth.{at};
 ghost use Rattle.product.specs.Entries.{sources, nearEnds, farEnds, ArraysOf};
@@ -47,7 +46,7 @@ fn stands<'a>(
     k: u8,
 ) -> bool
     requires { ⌜ (p < 256) × (q < 256) × (getD (now far) p 0 < 16) × (getD (now far) q 0 < 16) ⌝ }
-    ensures { λ r. ⌜ r ≡ both (eqb (getD (now (output .entry)) p 0) (getD (now (output .entry)) q 0)) (ltb k (at (now (d .entry)) (getD (now (far .entry)) p 0) (getD (now (far .entry)) q 0))) ⌝ }
+    ensures { λ r. ⌜ r ≡ (eqb (getD (now (output .entry)) p 0) (getD (now (output .entry)) q 0) && ltb k (at (now (d .entry)) (getD (now (far .entry)) p 0) (getD (now (far .entry)) q 0))) ⌝ }
 {
     if output[p] == output[q] {
         let s = number(far[p]);
@@ -145,7 +144,7 @@ fn starts(states: usize, flags: &[u8; 16], s: usize) -> bool
 
 fn both_start(states: usize, flags: &[u8; 16], u: usize, v: usize) -> bool
     requires { ⌜ (u < 16) × (v < 16) ⌝ }
-    ensures { λ r. ⌜ r ≡ both (startFlag states (now (flags .entry)) u) (startFlag states (now (flags .entry)) v) ⌝ }
+    ensures { λ r. ⌜ r ≡ (startFlag states (now (flags .entry)) u && startFlag states (now (flags .entry)) v) ⌝ }
 {
     if starts(states, flags, u) {
         return starts(states, flags, v);

@@ -1,4 +1,5 @@
 -- The report on a coder file: every byte that it prints (document 01, "The report program").
+use mathlib.Core.Bool.{cond}
 use Prim.Native.Nat.{ℕ, _+_, _/_, _%_}
 use mathlib.Core.Path.{_≡_}
 use mathlib.Core.List.{List, [], _∷_, _++_}
@@ -6,7 +7,7 @@ use lib.Dec.{ltb}
 use Rattle.mealy.specs.Setting.{Setting}
 use Rattle.mealy.specs.Window.{Works}
 use Rattle.mealy.specs.Order.{FewestLetters, Least}
-use Rattle.coder.specs.Refusal.{pick, upon}
+use Rattle.coder.specs.Refusal.{upon}
 use Rattle.coder.specs.File.{fileRefusal, statesOf, inputsOf, outputsOf, settingOf}
 
 -- ---- numbers and words, in ASCII
@@ -17,8 +18,8 @@ digit d = 48 + d
 -- A number below 1,000 in decimal, without leading zeros.
 unfoldable pub decimal : ℕ → List ℕ
 decimal n =
-    pick (ltb n 10) (digit n ∷ [])
-    (pick (ltb n 100) (digit (n / 10) ∷ digit (n % 10) ∷ [])
+    cond (ltb n 10) (digit n ∷ [])
+    (cond (ltb n 100) (digit (n / 10) ∷ digit (n % 10) ∷ [])
     (digit (n / 100) ∷ digit (n / 10 % 10) ∷ digit (n % 10) ∷ []))
 
 -- "refused ", "coder ", "window ": each with one space behind it

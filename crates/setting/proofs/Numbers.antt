@@ -1,7 +1,7 @@
 -- The two words that are written as numbers, by computed tests: all numbers below n, and all below 16 but one.
 use mathlib.Core.Path.{_≡_, refl, _∙_}
 use mathlib.Core.List.{List}
-use mathlib.Core.Bool.{Bool, true}
+use mathlib.Core.Bool.{Bool, true, _&&_, cond}
 use mathlib.Core.Logic.{_≢_}
 use Prim.Native.Nat.{ℕ, _+_, _-_, _/_, _%_, _^_, _*_, _<_, _≤_}
 use native.Mathlib.Omega.{arith}
@@ -14,18 +14,18 @@ use lib.Seq.{getD-set-same, getD-set-other}
 use borrow.Author.Count.{below-more}
 use borrow.Author.Tests.{ltb-true, eqb-true, lt-ltb, le-ltb, eq-eqb, ne-eqb}
 use Rattle.mealy.specs.Word.{Has, Holds}
-use Rattle.coder.specs.Refusal.{pick, both, allBelow}
+use Rattle.coder.specs.Refusal.{allBelow}
 use Rattle.coder.proofs.Refusals.{both-true, all-at}
 use Rattle.setting.specs.Words.{ConflictsOf}
 
 -- bit x of u is set exactly where the test says so
 abbrev bitIs : ℕ → ℕ → Bool → Bool
-bitIs u x t = eqb (u / 2 ^ x % 2) (pick t 1 0)
+bitIs u x t = eqb (u / 2 ^ x % 2) (cond t 1 0)
 
 -- ---- all numbers below n
 
 abbrev allTest : ℕ → Bool
-allTest n = both (ltb (2 ^ n - 1) 65536) (allBelow 16 (λ x. bitIs (2 ^ n - 1) x (ltb x n)))
+allTest n = ltb (2 ^ n - 1) 65536 && allBelow 16 (λ x. bitIs (2 ^ n - 1) x (ltb x n))
 
 all-tested : allBelow 17 allTest ≡ true
 unfolding allBelow
@@ -34,7 +34,7 @@ all-tested = refl
 pub holds-all : (n : ℕ) → n ≤ 16 → Holds (λ x. x < n) (2 ^ n - 1)
 holds-all n l =
     let t = both-true _ _ (all-at 17 allTest all-tested n (omega arith)) in
-    let bit : (x : ℕ) → x < 16 → (2 ^ n - 1) / 2 ^ x % 2 ≡ pick (ltb x n) 1 0 =
+    let bit : (x : ℕ) → x < 16 → (2 ^ n - 1) / 2 ^ x % 2 ≡ cond (ltb x n) 1 0 =
     λ x m. eqb-true _ _ (all-at 16 (λ x. bitIs (2 ^ n - 1) x (ltb x n)) (t .1) x m) in
     record {
       bound = ltb-true _ _ (t .0);
@@ -49,15 +49,15 @@ holds-all n l =
 -- ---- all numbers below 16 but i
 
 abbrev butTest : ℕ → Bool
-butTest i = allBelow 16 (λ x. eqb ((65535 - 2 ^ i) / 2 ^ x % 2) (pick (eqb i x) 0 1))
+butTest i = allBelow 16 (λ x. eqb ((65535 - 2 ^ i) / 2 ^ x % 2) (cond (eqb i x) 0 1))
 
 but-tested : allBelow 16 butTest ≡ true
 unfolding allBelow
 but-tested = refl
 
 module _ (i x : ℕ) (l : i < 16) (m : x < 16) where
-  bit-but : (65535 - 2 ^ i) / 2 ^ x % 2 ≡ pick (eqb i x) 0 1
-  bit-but = eqb-true _ _ (all-at 16 (λ x. eqb ((65535 - 2 ^ i) / 2 ^ x % 2) (pick (eqb i x) 0 1)) (all-at 16 butTest but-tested i l) x m)
+  bit-but : (65535 - 2 ^ i) / 2 ^ x % 2 ≡ cond (eqb i x) 0 1
+  bit-but = eqb-true _ _ (all-at 16 (λ x. eqb ((65535 - 2 ^ i) / 2 ^ x % 2) (cond (eqb i x) 0 1)) (all-at 16 butTest but-tested i l) x m)
 
   pub has-but : i ≢ x → Has (65535 - 2 ^ i) x
   has-but n = rw (ne-eqb i x n) at bit-but

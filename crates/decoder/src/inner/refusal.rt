@@ -1,10 +1,9 @@
 // The refusals of the three calls. `others` says whether the lent buffers besides the one of `room` bytes are long enough.
 ghost use mathlib.Core.Path.{_≡_};
 ghost use Prim.Native.Nat.{_≤_};
-ghost use mathlib.Core.Bool.{Bool};
+ghost use mathlib.Core.Bool.{Bool, _&&_};
 ghost use lib.ListN.{length};
 ghost use lib.Dec.{leb};
-ghost use Rattle.coder.specs.Refusal.{both};
 ghost use Rattle.coder.specs.File.{outputsOf};
 ghost use Rattle.decoder.specs.Refusal.{sidesRefusal, windowRefusal, stringRefusal, tableRefusal, tableSize};
 ghost use Rattle.decoder.specs.Places.{places as placesOf};
@@ -54,7 +53,7 @@ pub fn window(file: &[u8], b: usize, a: usize, received: &[u8], fits: bool) -> u
 
 // The refusal of a string, or 0.
 pub fn string(file: &[u8], b: usize, a: usize, received: &[u8], room: usize, others: bool) -> usize
-    ensures { λ r. ⌜ r ≡ stringRefusal (now (file .entry)) b a (now (received .entry)) (both (leb (placesOf (length (now (received .entry))) b a) room) others) ⌝ }
+    ensures { λ r. ⌜ r ≡ stringRefusal (now (file .entry)) b a (now (received .entry)) (leb (placesOf (length (now (received .entry))) b a) room && others) ⌝ }
 {
     let k = sides(file, b, a);
     if k != 0 {
@@ -77,7 +76,7 @@ pub fn string(file: &[u8], b: usize, a: usize, received: &[u8], room: usize, oth
 
 // The refusal of a table, or 0.
 pub fn table(file: &[u8], b: usize, a: usize, room: usize, others: bool) -> usize
-    ensures { λ r. ⌜ r ≡ tableRefusal (now (file .entry)) b a (both (leb (tableSize (outputsOf (now (file .entry))) b a) room) others) ⌝ }
+    ensures { λ r. ⌜ r ≡ tableRefusal (now (file .entry)) b a (leb (tableSize (outputsOf (now (file .entry))) b a) room && others) ⌝ }
 {
     let k = sides(file, b, a);
     if k != 0 {

@@ -1,8 +1,8 @@
 -- `start_square` meets its contract. The first a places are set, the others are 0.
+use mathlib.Core.Bool.{_&&_}
 use mathlib.Core.Path.{_≡_, refl}
 use Prim.Native.Nat.{_≤_, _-_, _*_}
 use borrow.Author.Tests.{le-ltb}
-use Rattle.coder.specs.Refusal.{both}
 use Rattle.product.specs.Rounds.{startFlag}
 use Rattle.product.proofs.Beginning.{FilledTo, filled-start, filled-put, filled-skip, filled-all}
 use Rattle.coder.proofs.Refusals.{via}
@@ -13,7 +13,7 @@ use Rattle.product.proofs.inner.start_square.Tie as tie
 
 abbrev Inv-loop : tie.InvT-loop
 Inv-loop states flags end d₀ a₀ d a =
-    (a ≤ end) × (end ≡ 16 * states) × FilledTo (λ u v. both (startFlag states flags u) (startFlag states flags v)) a d
+    (a ≤ end) × (end ≡ 16 * states) × FilledTo (λ u v. (startFlag states flags u && startFlag states flags v)) a d
 
 abbrev μ-loop : tie.MeasureT-loop
 μ-loop states flags end d₀ a₀ d a = end - a

@@ -1,12 +1,12 @@
 -- `refusal::table` meets its contract: the refusals of the file and the sides, then 10 and 11 in order.
 use mathlib.Core.Path.{_≡_}
-use mathlib.Core.Bool.{not}
+use mathlib.Core.Bool.{not, _&&_}
 use Prim.Native.Nat.{_+_}
 use native.Mathlib.Omega.{arith}
 use lib.Dec.{leb, eqb}
 use denote.Ref.{now}
 use borrow.Author.Needs.{needs}
-use Rattle.coder.specs.Refusal.{refuse, both}
+use Rattle.coder.specs.Refusal.{refuse}
 use Rattle.coder.specs.File.{outputsOf}
 use Rattle.coder.proofs.Refusals.{refused-first, tests, via}
 use Rattle.coder.proofs.Accepted.{accepted}
@@ -42,8 +42,8 @@ by-room :
     (c : tie.After-size) →
     let a = c .before .before .before .before .before .args in
     let m = c .size .result in
-    tableRefusal (now (a .file)) (a .b) (a .a) (both (leb (tableSize (outputsOf (now (a .file))) (a .b) (a .a)) (a .room)) (a .others))
-    ≡ refuse (eqb m 0) 10 (refuse (not (both (leb m (a .room)) (a .others))) 11 0)
+    tableRefusal (now (a .file)) (a .b) (a .a) (leb (tableSize (outputsOf (now (a .file))) (a .b) (a .a)) (a .room) && (a .others))
+    ≡ refuse (eqb m 0) 10 (refuse (not (leb m (a .room) && (a .others))) 11 0)
 unfolding tableRefusal
 by-room c =
     let a = c .before .before .before .before .before .args in
