@@ -163,6 +163,19 @@ static void bench_string(const char *name, size_t b, size_t a, size_t n)
     compare(name, do_decode, do_plain_decode, n);
 }
 
+/* A coded string with windows of each shape. */
+static void bench_strings(const char *coder)
+{
+    static const size_t sides[][2] = {{1, 0}, {2, 0}, {8, 0}, {60, 0}, {2, 2}, {8, 8}, {0, 60}};
+    char name[100];
+    size_t k;
+
+    for (k = 0; k < sizeof sides / sizeof *sides; k++) {
+        sprintf(name, "string: %s, window %lu %lu", coder, (unsigned long)sides[k][0], (unsigned long)sides[k][1]);
+        bench_string(name, sides[k][0], sides[k][1], LETTERS);
+    }
+}
+
 static void bench_run(const char *name)
 {
     size_t k;
@@ -239,19 +252,15 @@ int main(void)
 
     example_a();
     bench_run("run: A, 20,000 letters");
-    bench_string("string: A, window 1 0", 1, 0, LETTERS);
-    bench_string("string: A, window 2 2", 2, 2, LETTERS);
-    bench_string("string: A, window 8 8", 8, 8, LETTERS);
+    bench_strings("A");
     bench_table("table: A, 65,536 bytes", 8, 7);
     any_coder(16, 16, 64);
     bench_run("run: 16 states, 16 inputs, 64 outputs, 20,000 letters");
-    bench_string("string: 16 states, 16 inputs, 64 outputs, window 1 0", 1, 0, LETTERS);
-    bench_string("string: 16 states, 16 inputs, 64 outputs, window 2 2", 2, 2, LETTERS);
-    bench_string("string: 16 states, 16 inputs, 64 outputs, window 8 8", 8, 8, LETTERS);
+    bench_strings("16 states, 16 inputs, 64 outputs");
     any_coder(16, 16, 16);
     bench_table("table: 16 states, 16 inputs, 16 outputs, 65,536 bytes", 2, 1);
     any_coder(16, 16, 4);
-    bench_string("string: 16 states, 16 inputs, 4 outputs, window 2 2", 2, 2, LETTERS);
+    bench_strings("16 states, 16 inputs, 4 outputs");
     bench_table("table: 16 states, 16 inputs, 4 outputs, 65,536 bytes", 4, 3);
     return 0;
 }

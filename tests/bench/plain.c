@@ -75,54 +75,67 @@ size_t plain_run(const uint8_t *file, size_t file_len, size_t start, const uint8
 
 /* ---- decoding ---- */
 
-/* The entries with an output letter: from[o] to from[o + 1] of `entry`. */
-typedef struct entries {
-    uint16_t from[65];
-    uint8_t entry[256];
-} entries;
+/* For each output letter and state, of the entries with that output: the states to which those of the state
+   lead, the states from which they lead to it, and the input letters of those of the state. */
+typedef struct sets {
+    uint16_t to[64][16], from[64][16], letters[64][16];
+    uint16_t all;
+} sets;
 
-static void sort_entries(const coder *c, entries *l)
+static void make_sets(const coder *c, sets *d)
 {
-    size_t o, s, i, n = 0;
+    size_t s, i;
 
-    for (o = 0; o < c->outputs; o++) {
-        l->from[o] = (uint16_t)n;
-        for (s = 0; s < c->states; s++)
-            for (i = 0; i < c->inputs; i++)
-                if (c->out[16 * s + i] == o)
-                    l->entry[n++] = (uint8_t)(16 * s + i);
-    }
-    l->from[o] = (uint16_t)n;
+    memset(d, 0, sizeof *d);
+    d->all = (uint16_t)((1u << c->states) - 1);
+    for (s = 0; s < c->states; s++)
+        for (i = 0; i < c->inputs; i++) {
+            size_t t = c->next[16 * s + i], o = c->out[16 * s + i];
+
+            d->to[o][s] |= (uint16_t)(1u << t);
+            d->from[o][t] |= (uint16_t)(1u << s);
+            d->letters[o][s] |= (uint16_t)(1u << i);
+        }
 }
 
-/* One letter: for each state the letters at the present place of the runs that end there; before that
-   place, all ones where some run ends there. */
-static void step(const coder *c, const entries *l, size_t o, int present, const uint16_t *m,
-                 uint16_t *n)
+static unsigned image(const uint16_t *row, unsigned set)
 {
+    unsigned r = 0;
+
+    for (; set; set &= set - 1)
+        r |= row[__builtin_ctz(set)];
+    return r;
+}
+
+static uint8_t answer(unsigned letters)
+{
+    if (!letters)
+        return 254;
+    return letters & (letters - 1) ? 255 : (uint8_t)__builtin_ctz(letters);
+}
+
+/* One window: forward to the present letter, backward from the end, and the entries between the two. */
+static uint8_t decode_window(const coder *c, const sets *d, const uint8_t *w, size_t before, size_t after)
+{
+    unsigned f = d->all, g = d->all, found = 0;
+    const uint16_t *letters = d->letters[w[before]];
     size_t k;
 
-    memset(n, 0, 16 * sizeof *n);
-    for (k = l->from[o]; k < l->from[o + 1]; k++) {
-        size_t e = l->entry[k];
-        uint16_t x = m[e / 16];
-
-        if (present && x)
-            x = (uint16_t)(1 << e % 16);
-        n[c->next[e]] |= x;
-    }
-}
-
-static uint8_t answer(const uint16_t *m)
-{
-    unsigned all = 0;
-    size_t s;
-
-    for (s = 0; s < 16; s++)
-        all |= m[s];
-    if (!all)
+    for (k = 0; k < before && f; k++)
+        f = image(d->to[w[k]], f);
+    if (!f)
         return 254;
-    return all & (all - 1) ? 255 : (uint8_t)__builtin_ctz(all);
+    for (k = before + after; k > before && g; k--)
+        g = image(d->from[w[k]], g);
+    for (; f; f &= f - 1) {
+        size_t s = (size_t)__builtin_ctz(f);
+        unsigned x = letters[s];
+
+        for (; x; x &= x - 1)
+            if (g >> c->next[16 * s + (size_t)__builtin_ctz(x)] & 1)
+                found |= x & -x;
+    }
+    return answer(found);
 }
 
 size_t plain_decode(const uint8_t *file, size_t file_len, size_t before, size_t after,
@@ -130,8 +143,8 @@ size_t plain_decode(const uint8_t *file, size_t file_len, size_t before, size_t 
                     size_t output_len, size_t *count)
 {
     coder c;
-    entries l;
-    size_t k, j, n, r = read_coder(file, file_len, &c);
+    sets d;
+    size_t k, n, r = read_coder(file, file_len, &c);
 
     if (r)
         return r;
@@ -142,34 +155,71 @@ size_t plain_decode(const uint8_t *file, size_t file_len, size_t before, size_t 
         return 11;
     if (!below(received, received_len, c.outputs))
         return 13;
-    sort_entries(&c, &l);
-    for (k = 0; k < n; k++) {
-        uint16_t m[2][16];
-
-        for (j = 0; j < 16; j++)
-            m[0][j] = j < c.states ? 0xffff : 0;
-        for (j = 0; j < before + 1 + after; j++)
-            step(&c, &l, received[k + j], j == before, m[j % 2], m[(j + 1) % 2]);
-        output[k] = answer(m[j % 2]);
-    }
+    make_sets(&c, &d);
+    for (k = 0; k < n; k++)
+        output[k] = decode_window(&c, &d, received + k, before, after);
     *count = n;
     return 0;
 }
 
-static uint8_t *fill(const coder *c, const entries *l, size_t place, size_t present, size_t letters,
-                     const uint16_t *m, uint8_t *table)
+/* The table, letter by letter, so that windows that begin alike share the work: one set of states before the
+   present letter; after it, for each state of a set, the letters at the present place of the runs that end there.
+   A part that no run gives is filled at once. */
+static uint8_t *fill_after(const coder *c, const sets *d, size_t size, const uint16_t *m, unsigned states,
+                           uint8_t *table)
 {
+    unsigned s, t, all;
     size_t o;
 
-    if (place == letters) {
-        *table = answer(m);
+    if (!states) {
+        memset(table, 254, size);
+        return table + size;
+    }
+    if (size == 1) {
+        for (all = 0; states; states &= states - 1)
+            all |= m[__builtin_ctz(states)];
+        *table = answer(all);
         return table + 1;
     }
     for (o = 0; o < c->outputs; o++) {
         uint16_t n[16];
 
-        step(c, l, o, place == present, m, n);
-        table = fill(c, l, place + 1, present, letters, n, table);
+        memset(n, 0, sizeof n);
+        for (all = 0, s = states; s; s &= s - 1) {
+            unsigned x = m[__builtin_ctz(s)];
+
+            t = d->to[o][__builtin_ctz(s)];
+            all |= t;
+            for (; t; t &= t - 1)
+                n[__builtin_ctz(t)] |= (uint16_t)x;
+        }
+        table = fill_after(c, d, size / c->outputs, n, all, table);
+    }
+    return table;
+}
+
+static uint8_t *fill(const coder *c, const sets *d, size_t before, size_t size, unsigned states, uint8_t *table)
+{
+    unsigned s, x, all;
+    size_t o;
+
+    if (!states) {
+        memset(table, 254, size);
+        return table + size;
+    }
+    for (o = 0; o < c->outputs; o++) {
+        uint16_t n[16];
+
+        all = image(d->to[o], states);
+        if (before) {
+            table = fill(c, d, before - 1, size / c->outputs, all, table);
+            continue;
+        }
+        memset(n, 0, sizeof n);
+        for (s = states; s; s &= s - 1)
+            for (x = d->letters[o][__builtin_ctz(s)]; x; x &= x - 1)
+                n[c->next[16 * __builtin_ctz(s) + __builtin_ctz(x)]] |= (uint16_t)(x & -x);
+        table = fill_after(c, d, size / c->outputs, n, all, table);
     }
     return table;
 }
@@ -178,8 +228,7 @@ size_t plain_table(const uint8_t *file, size_t file_len, size_t before, size_t a
                    uint8_t *table, size_t table_len, size_t *count)
 {
     coder c;
-    entries l;
-    uint16_t m[16];
+    sets d;
     size_t k, size = 1, r = read_coder(file, file_len, &c);
 
     if (r)
@@ -192,10 +241,14 @@ size_t plain_table(const uint8_t *file, size_t file_len, size_t before, size_t a
         return 10;
     if (table_len < size)
         return 11;
-    sort_entries(&c, &l);
-    for (k = 0; k < 16; k++)
-        m[k] = k < c.states ? 0xffff : 0;
-    fill(&c, &l, 0, before, before + 1 + after, m, table);
+    make_sets(&c, &d);
+    if (c.outputs == 1) {
+        uint8_t w[273] = {0};
+
+        *table = decode_window(&c, &d, w, before, after);
+    } else {
+        fill(&c, &d, before, size, d.all, table);
+    }
     *count = size;
     return 0;
 }
