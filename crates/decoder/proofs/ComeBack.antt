@@ -1,5 +1,6 @@
 -- Letters come back: what the coder writes on xs, decoded with a window that works, is xs from place b on.
 use mathlib.Core.Path.{_≡_, refl}
+use mathlib.Core.Bool.{true}
 use mathlib.Core.List.{List}
 use Prim.Native.Nat.{ℕ, _+_, _<_}
 use native.Mathlib.Omega.{arith}
@@ -15,27 +16,28 @@ use Rattle.coder.proofs.Accepted.{accepted}
 use Rattle.coder.proofs.Tables.{total}
 use Rattle.pass.proofs.Meaning.{right-byte-unique}
 use Rattle.coder.specs.File.{settingOf}
-use Rattle.decoder.specs.Written.{Written}
-use Rattle.decoder.specs.Places.{places, ByteAt, stringRefusalIn, StringPromise}
+use Rattle.values.specs.Window.{size}
+use Rattle.values.specs.declared.Window.{Window}
+use Rattle.decoder.specs.Places.{places, StringWritten, stringRefusalIn, StringPromise}
 use Rattle.decoder.specs.declared.CountResult.{CountResult}
 
 pub string-comes-back :
-    (f : List ℕ) (b a s : ℕ) (xs before : List ℕ) (r : CountResult) (after : List ℕ) → fileRefusal f ≡ 0 →
-    Works (settingOf f) b a → s < statesOf f → Letters (inputsOf f) xs →
-    stringRefusalIn f b a (outs (machineOf f) s xs) before ≡ 0 →
-    StringPromise f b a (outs (machineOf f) s xs) before r after → (k : ℕ) → k < places (length xs) b a →
-    getD after k 0 ≡ getD xs (k + b) 0
+    (f : List ℕ) (w : Window) (s : ℕ) (xs before : List ℕ) (r : CountResult) (after : List ℕ) → fileRefusal f ≡ 0 →
+    Works (settingOf f) (w .before) (w .after) → s < statesOf f → Letters (inputsOf f) xs →
+    stringRefusalIn f w (outs (machineOf f) s xs) (length before) true ≡ 0 →
+    StringPromise f w (outs (machineOf f) s xs) before r after → (k : ℕ) → k < places (length xs) w →
+    getD after k 0 ≡ getD xs (k + w .before) 0
 unfolding machineOf
-string-comes-back f b a s xs before r after z works start letters accepted-call p k l =
-    let w = outs (machineOf f) s xs in
-    let long : length w ≡ length xs = length-outs (machineOf f) s xs in
-    let written : Written (ByteAt (settingOf f) w b a) (places (length w) b a) before after =
-    rw accepted-call at (p .bytes) in
-    right-byte-unique (settingOf f) (take (b + 1 + a) (drop k w)) b (written .is k (omega arith))
+string-comes-back f w s xs before r after z works start letters accepted-call p k l =
+    let b = w .before in
+    let o = outs (machineOf f) s xs in
+    let long : length o ≡ length xs = length-outs (machineOf f) s xs in
+    let written : StringWritten f w o before after = rw accepted-call at (p .bytes) in
+    right-byte-unique (settingOf f) (take (size w) (drop k o)) b (written .is k (omega arith))
     (record {
       answer = letter (getD xs (k + b) 0);
       right =
-          comes-back-at (settingOf f) (λ i j d. d) b a works (any-closed (machineOf f) (total f (accepted f z))) s xs k start
-          letters (omega arith);
+          comes-back-at (settingOf f) (λ i j d. d) b (w .after) works (any-closed (machineOf f) (total f (accepted f z))) s xs k
+          start letters (omega arith);
       byte = refl;
     })

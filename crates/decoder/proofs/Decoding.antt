@@ -21,10 +21,11 @@ use Rattle.pass.specs.Pass.{ArraysOf, startSets, decoded}
 use Rattle.pass.specs.declared.Answer.{Answer}
 use Rattle.pass.proofs.Meaning.{decoded-right, all-flags, right-byte}
 use Rattle.coder.specs.File.{settingOf}
-use Rattle.decoder.specs.Written.{Written}
+use Rattle.values.specs.Window.{size}
+use Rattle.values.specs.declared.Window.{Window}
 use Rattle.decoder.specs.Refusal.{tableSize}
-use Rattle.decoder.specs.Places.{places, ByteAt, PlacesDecoded}
-use Rattle.decoder.specs.Table.{windowAt, EntryAt, Filled}
+use Rattle.decoder.specs.Places.{places, StringWritten, PlacesDecoded}
+use Rattle.decoder.specs.Table.{windowAt, TableWritten, TableFilled}
 use Rattle.decoder.proofs.Writing.{written-map}
 use Rattle.decoder.proofs.Indices.{length-window}
 
@@ -88,27 +89,24 @@ module _ {c : Coder} {f : List ℕ} (h : CoderOf c f) where
 
   -- a string
   pub places-right :
-      (w : List ℕ) (b a : ℕ) {n m : ℕ} {before after : List ℕ} → n ≡ b + 1 + a → m ≡ places (length w) b a →
-      PlacesDecoded c anyFlags w b n m before after →
-      Written (ByteAt (settingOf f) w b a) (places (length w) b a) before after
-  places-right w b a {n} {m} en em d =
+      (w : Window) (received : List ℕ) {n m : ℕ} {before after : List ℕ} → n ≡ size w → m ≡ places (length received) w →
+      PlacesDecoded c anyFlags received (w .before) n m before after → StringWritten f w received before after
+  places-right w received {n} {m} en em d =
       rw (← em)
-      (written-map {Q = λ k v. v ≡ byteOf (meaning (decoded c anyFlags (take n (drop k w)) b))}
+      (written-map {Q = λ k v. v ≡ byteOf (meaning (decoded c anyFlags (take n (drop k received)) (w .before)))}
       (λ k v l q.
-      let long : length (take (b + 1 + a) (drop k w)) ≡ b + 1 + a =
-      length-take-le (b + 1 + a) (drop k w) (simp length-drop (omega arith)) in
-      byte-right (take (b + 1 + a) (drop k w)) b (omega arith) (rw en at q))
+      let long : length (take (size w) (drop k received)) ≡ size w =
+      length-take-le (size w) (drop k received) (simp length-drop (omega arith)) in
+      byte-right (take (size w) (drop k received)) (w .before) (omega arith) (rw en at q))
       d)
 
   -- a table, of which the first bytes were lent and are now ys
   pub table-right :
-      {o n count : ℕ} {v before ys : List ℕ} (b a : ℕ) → o ≡ outputsOf f → n ≡ b + 1 + a →
-      count ≡ tableSize (outputsOf f) b a → count ≤ length before → v ≡ startSets anyFlags →
-      Filled c o v n (b + 1) ys →
-      Written (EntryAt (settingOf f) (outputsOf f) (b + 1 + a) b) (tableSize (outputsOf f) b a) before
-      (ys ++ drop count before)
+      {o n count : ℕ} {v before ys : List ℕ} (w : Window) → o ≡ outputsOf f → n ≡ size w →
+      count ≡ tableSize (outputsOf f) w → count ≤ length before → v ≡ startSets anyFlags →
+      TableFilled c o v n (w .before + 1) ys → TableWritten f w before (ys ++ drop count before)
   unfolding decoded
-  table-right {o} {n} {count} {v} {before} {ys} b a eo en ec room ev g =
+  table-right {o} {n} {count} {v} {before} {ys} w eo en ec room ev g =
       let long : length ys ≡ count = rw (eo, en, ← ec) at (g .size) in
       rw (← ec)
       (record {
@@ -116,8 +114,8 @@ module _ {c : Coder} {f : List ℕ} (h : CoderOf c f) where
         is = λ k l.
             let there : k < o ^ n = rw (eo, en, ← ec) l in
             rw (List·getD-append ys (drop count before) 0 k (omega arith))
-            (byte-right (windowAt (outputsOf f) (b + 1 + a) k) b
-            (omega (arith, length-window (outputsOf f) (b + 1 + a) k))
+            (byte-right (windowAt (outputsOf f) (size w) k) (w .before)
+            (omega (arith, length-window (outputsOf f) (size w) k))
             (g .is k there ∙ rw (eo, en, ev, add-one)));
         rest = drop-at ys (drop count before) count long;
       })

@@ -3,11 +3,10 @@
 use mathlib.Core.Path.{_≡_, refl, sym, ap, _∙_}
 use mathlib.Core.Bool.{true}
 use mathlib.Core.List.{List}
-use Prim.Native.Nat.{ℕ, zero, suc, _+_, _≤_, _<_}
+use Prim.Native.Nat.{ℕ, zero, suc, _≤_, _<_}
 use native.Mathlib.Omega.{arith}
 use lib.ListN.{length, take, drop, length-drop}
 use lib.Seq.{length-take-le}
-use borrow.Author.Tests.{leb-true}
 use Rattle.mealy.specs.Answer.{byteOf}
 use Rattle.coder.specs.Refusal.{answer}
 use Rattle.coder.specs.File.{outputsOf}
@@ -17,6 +16,8 @@ use Rattle.pass.specs.Pass.{decoded}
 use Rattle.pass.proofs.Meaning.{right-unique, right-byte, right-byte-unique}
 use Rattle.coder.specs.File.{settingOf}
 use Rattle.coder.specs.Refusal.{upon}
+use Rattle.values.specs.Window.{size}
+use Rattle.values.specs.declared.Window.{Window}
 use Rattle.decoder.specs.Written.{Written}
 use Rattle.decoder.specs.Refusal.{windowRefusal, tableSize}
 use Rattle.decoder.specs.Window.{AnsweredRight, WindowPromise}
@@ -25,36 +26,38 @@ use Rattle.decoder.specs.Table.{windowAt, EntryAt, tableRefusalIn, Table
 use Rattle.decoder.specs.declared.WindowResult.{WindowResult}
 use Rattle.decoder.specs.declared.WindowResult.the-variants.{Refused, Answered}
 use Rattle.decoder.specs.declared.CountResult as count
-use Rattle.decoder.proofs.Accepting.{window-accepted, string-accepted, table-accepted}
+use Rattle.decoder.proofs.Accepting.{window-accepted, string-accepted, string-asked, table-accepted, table-asked}
 use Rattle.decoder.proofs.Writing.{written-front, written-unique}
 use Rattle.decoder.proofs.Indices.{length-window}
 use Rattle.decoder.proofs.Decoding.{anyFlags, file-right}
 
 -- ---- one window
 
-module _ (f : List ℕ) (b a : ℕ) (w : List ℕ) where
-  pub window-determined : (r r′ : WindowResult) → WindowPromise f b a w r → WindowPromise f b a w r′ → r ≡ r′
-  window-determined r r′ = go (windowRefusal f b a w true)
+module _ (f : List ℕ) (w : Window) (received : List ℕ) where
+  pub window-determined : (r r′ : WindowResult) → WindowPromise f w received r → WindowPromise f w received r′ → r ≡ r′
+  window-determined r r′ = go (windowRefusal f w received true)
     where
       go :
-          (k : ℕ) → upon k (λ j. r ≡ Refused j) (AnsweredRight f b w r) →
-          upon k (λ j. r′ ≡ Refused j) (AnsweredRight f b w r′) → r ≡ r′
+          (k : ℕ) → upon k (λ j. r ≡ Refused j) (AnsweredRight f w received r) →
+          upon k (λ j. r′ ≡ Refused j) (AnsweredRight f w received r′) → r ≡ r′
       go zero p q =
           p .is
-          ∙ ap (λ v. Answered v) (right-unique (settingOf f) w b (p .answer) (q .answer) (p .right) (q .right))
+          ∙ ap (λ v. Answered v) (right-unique (settingOf f) received (w .before) (p .answer) (q .answer) (p .right) (q .right))
           ∙ sym (q .is)
       go (suc k) p q = p ∙ sym q
 
-  pub window-exists : (r : WindowResult) × WindowPromise f b a w r
-  window-exists = go (windowRefusal f b a w true) refl
+  pub window-exists : (r : WindowResult) × WindowPromise f w received r
+  window-exists = go (windowRefusal f w received true) refl
     where
       go :
-          (k : ℕ) → windowRefusal f b a w true ≡ k →
-          (r : WindowResult) × upon k (λ j. r ≡ Refused j) (AnsweredRight f b w r)
+          (k : ℕ) → windowRefusal f w received true ≡ k →
+          (r : WindowResult) × upon k (λ j. r ≡ Refused j) (AnsweredRight f w received r)
       go zero e =
-          let h = window-accepted f b a w true e in
-          let v = decoded (coderOf f) anyFlags w b in
-          (Answered v, record { answer = v; is = refl; right = file-right f (h .sides .file) w b (omega (arith, h .size)) })
+          let h = window-accepted f w received true e in
+          let v = decoded (coderOf f) anyFlags received (w .before) in (
+            Answered v,
+            record { answer = v; is = refl; right = file-right f (h .sides .file) received (w .before) (omega (arith, h .long)) },
+          )
       go (suc k) e = (Refused (suc k), refl)
 
 -- ---- the bytes that a call leaves
@@ -75,71 +78,74 @@ bytes-exist Q n before g (suc k) h = (before, refl)
 
 -- ---- a string
 
-module _ (f : List ℕ) (b a : ℕ) (w before : List ℕ) where
+module _ (f : List ℕ) (w : Window) (received before : List ℕ) where
   pub string-determined :
-      (r r′ : count.CountResult) (after after′ : List ℕ) → StringPromise f b a w before r after →
-      StringPromise f b a w before r′ after′ → (r ≡ r′) × (after ≡ after′)
+      (r r′ : count.CountResult) (after after′ : List ℕ) → StringPromise f w received before r after →
+      StringPromise f w received before r′ after′ → (r ≡ r′) × (after ≡ after′)
   string-determined r r′ after after′ p q = (
     p .result ∙ sym (q .result),
-    bytes-determined (ByteAt (settingOf f) w b a) (places (length w) b a) before after after′ (stringRefusalIn f b a w before)
-        (λ k x y. right-byte-unique (settingOf f) (take (b + 1 + a) (drop k w)) b) (p .bytes) (q .bytes),
+    bytes-determined (ByteAt (settingOf f) received w) (places (length received) w) before after after′
+        (stringRefusalIn f w received (length before) true)
+        (λ k x y. right-byte-unique (settingOf f) (take (size w) (drop k received)) (w .before)) (p .bytes) (q .bytes),
   )
 
-  pub string-exists : (r : count.CountResult) × (after : List ℕ) × StringPromise f b a w before r after
+  pub string-exists : (r : count.CountResult) × (after : List ℕ) × StringPromise f w received before r after
   string-exists =
       let e =
-      bytes-exist (ByteAt (settingOf f) w b a) (places (length w) b a) before
-      (λ k. byteOf (meaning (decoded (coderOf f) anyFlags (take (b + 1 + a) (drop k w)) b)))
-      (stringRefusalIn f b a w before) right in
+      bytes-exist (ByteAt (settingOf f) received w) (places (length received) w) before
+      (λ k. byteOf (meaning (decoded (coderOf f) anyFlags (take (size w) (drop k received)) (w .before))))
+      (stringRefusalIn f w received (length before) true) right in
       (_, e .0, record { result = refl; bytes = e .1 })
     where
       right :
-          stringRefusalIn f b a w before ≡ 0 →
-          (places (length w) b a ≤ length before)
-          × ((k : ℕ) → k < places (length w) b a →
-          ByteAt (settingOf f) w b a k (byteOf (meaning (decoded (coderOf f) anyFlags (take (b + 1 + a) (drop k w)) b))))
+          stringRefusalIn f w received (length before) true ≡ 0 →
+          (places (length received) w ≤ length before)
+          × ((k : ℕ) → k < places (length received) w →
+          ByteAt (settingOf f) received w k
+          (byteOf (meaning (decoded (coderOf f) anyFlags (take (size w) (drop k received)) (w .before)))))
       right z =
-          let h = string-accepted f b a w _ z in (
-            leb-true _ _ (h .fits),
+          let h = string-accepted f w received _ z in (
+            string-asked f w received before true z .room,
             λ k l.
-                let part = take (b + 1 + a) (drop k w) in
-                let long : length part ≡ b + 1 + a =
-                length-take-le (b + 1 + a) (drop k w) (simp length-drop (omega arith)) in
-                right-byte (settingOf f) part b (decoded (coderOf f) anyFlags part b)
-                (file-right f (h .sides .file) part b (omega arith)),
+                let part = take (size w) (drop k received) in
+                let long : length part ≡ size w =
+                length-take-le (size w) (drop k received) (simp length-drop (omega arith)) in
+                right-byte (settingOf f) part (w .before) (decoded (coderOf f) anyFlags part (w .before))
+                (file-right f (h .sides .file) part (w .before) (omega arith)),
           )
 
 -- ---- a table
 
-module _ (f : List ℕ) (b a : ℕ) (before : List ℕ) where
+module _ (f : List ℕ) (w : Window) (before : List ℕ) where
   pub table-determined :
-      (r r′ : count.CountResult) (after after′ : List ℕ) → TablePromise f b a before r after →
-      TablePromise f b a before r′ after′ → (r ≡ r′) × (after ≡ after′)
+      (r r′ : count.CountResult) (after after′ : List ℕ) → TablePromise f w before r after →
+      TablePromise f w before r′ after′ → (r ≡ r′) × (after ≡ after′)
   table-determined r r′ after after′ p q = (
     p .result ∙ sym (q .result),
-    bytes-determined (EntryAt (settingOf f) (outputsOf f) (b + 1 + a) b) (tableSize (outputsOf f) b a) before after after′ (tableRefusalIn f b a before)
-        (λ k x y. right-byte-unique (settingOf f) (windowAt (outputsOf f) (b + 1 + a) k) b) (p .bytes) (q .bytes),
+    bytes-determined (EntryAt (settingOf f) (outputsOf f) (size w) (w .before)) (tableSize (outputsOf f) w) before after after′
+        (tableRefusalIn f w (length before) true)
+        (λ k x y. right-byte-unique (settingOf f) (windowAt (outputsOf f) (size w) k) (w .before)) (p .bytes) (q .bytes),
   )
 
-  pub table-exists : (r : count.CountResult) × (after : List ℕ) × TablePromise f b a before r after
+  pub table-exists : (r : count.CountResult) × (after : List ℕ) × TablePromise f w before r after
   table-exists =
       let e =
-      bytes-exist (EntryAt (settingOf f) (outputsOf f) (b + 1 + a) b) (tableSize (outputsOf f) b a) before
-      (λ k. byteOf (meaning (decoded (coderOf f) anyFlags (windowAt (outputsOf f) (b + 1 + a) k) b)))
-      (tableRefusalIn f b a before) right in
+      bytes-exist (EntryAt (settingOf f) (outputsOf f) (size w) (w .before)) (tableSize (outputsOf f) w) before
+      (λ k. byteOf (meaning (decoded (coderOf f) anyFlags (windowAt (outputsOf f) (size w) k) (w .before))))
+      (tableRefusalIn f w (length before) true) right in
       (_, e .0, record { result = refl; bytes = e .1 })
     where
       right :
-          tableRefusalIn f b a before ≡ 0 →
-          (tableSize (outputsOf f) b a ≤ length before)
-          × ((k : ℕ) → k < tableSize (outputsOf f) b a →
-          EntryAt (settingOf f) (outputsOf f) (b + 1 + a) b k
-          (byteOf (meaning (decoded (coderOf f) anyFlags (windowAt (outputsOf f) (b + 1 + a) k) b))))
+          tableRefusalIn f w (length before) true ≡ 0 →
+          (tableSize (outputsOf f) w ≤ length before)
+          × ((k : ℕ) → k < tableSize (outputsOf f) w →
+          EntryAt (settingOf f) (outputsOf f) (size w) (w .before) k
+          (byteOf (meaning (decoded (coderOf f) anyFlags (windowAt (outputsOf f) (size w) k) (w .before)))))
       right z =
-          let h = table-accepted f b a _ z in (
-            leb-true _ _ (h .fits),
+          let h = table-accepted f w _ z in (
+            table-asked f w before true z .room,
             λ k l.
-                let part = windowAt (outputsOf f) (b + 1 + a) k in
-                right-byte (settingOf f) part b (decoded (coderOf f) anyFlags part b)
-                (file-right f (h .sides .file) part b (omega (arith, length-window (outputsOf f) (b + 1 + a) k))),
+                let part = windowAt (outputsOf f) (size w) k in
+                right-byte (settingOf f) part (w .before) (decoded (coderOf f) anyFlags part (w .before))
+                (file-right f (h .sides .file) part (w .before) (omega (arith, length-window (outputsOf f) (size w) k))),
           )

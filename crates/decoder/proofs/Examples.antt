@@ -1,13 +1,12 @@
 -- Document 01's examples by computation: the tables of A and D, and windows of G with each of the three answers. So the records of accepted
 -- calls are met by something, and each answer occurs.
 use mathlib.Core.Path.{_≡_, refl, subst}
-use mathlib.Core.Bool.{true}
+use mathlib.Core.Bool.{true, _&&_}
 use mathlib.Core.List.{List, [], _∷_, _++_}
-use Prim.Native.Nat.{ℕ, _+_}
+use Prim.Native.Nat.{ℕ}
 use native.Mathlib.Omega.{arith}
 use lib.ListN.{length, drop}
 use lib.Dec.{leb}
-use borrow.Author.Tests.{leb-true}
 use lib.Count.{leadingZeros}
 use Rattle.mealy.specs.Answer.{byteOf}
 use Rattle.coder.specs.Refusal.{allBelow}
@@ -20,13 +19,14 @@ use Rattle.pass.specs.declared.Answer.{Answer}
 use Rattle.pass.specs.declared.Answer.the-variants.{Letter, None, Several}
 use Rattle.pass.proofs.Meaning.{right-byte}
 use Rattle.coder.specs.File.{settingOf}
-use Rattle.decoder.specs.Written.{Written}
+use Rattle.values.specs.Window.{window, size}
+use Rattle.values.specs.declared.Window.{Window}
 use Rattle.decoder.specs.Refusal.{sidesRefusal, windowRefusal, tableSize, tableRefusal}
 use Rattle.decoder.specs.Window.{WindowPromise}
-use Rattle.decoder.specs.Table.{windowAt, EntryAt, tableRefusalIn, TablePromise}
+use Rattle.decoder.specs.Table.{windowAt, TableWritten, tableRefusalIn, TablePromise}
 use Rattle.decoder.specs.declared.WindowResult.the-variants.{Refused, Answered}
 use Rattle.decoder.specs.declared.CountResult.the-variants.{Done}
-use Rattle.decoder.proofs.Accepting.{window-accepted, table-accepted}
+use Rattle.decoder.proofs.Accepting.{window-accepted, table-accepted, table-asked}
 use Rattle.decoder.proofs.Writing.{written-front}
 use Rattle.decoder.proofs.Indices.{length-window}
 use Rattle.decoder.proofs.Decoding.{anyFlags, file-right}
@@ -34,39 +34,40 @@ use Rattle.decoder.proofs.Decoding.{anyFlags, file-right}
 -- ---- a call on a file, from what the pass computes
 
 answered :
-    (f : List ℕ) (b a : ℕ) (w : List ℕ) (v : Answer) → windowRefusal f b a w true ≡ 0 →
-    decoded (coderOf f) anyFlags w b ≡ v → WindowPromise f b a w (Answered v)
-answered f b a w v z e =
-    let h = window-accepted f b a w true z in
+    (f : List ℕ) (w : Window) (received : List ℕ) (v : Answer) → windowRefusal f w received true ≡ 0 →
+    decoded (coderOf f) anyFlags received (w .before) ≡ v → WindowPromise f w received (Answered v)
+answered f w received v z e =
+    let h = window-accepted f w received true z in
     rw z
     record {
       answer = v;
       is = refl;
-      right = subst (λ x. Right (settingOf f) w b x) e (file-right f (h .sides .file) w b (omega (arith, h .size)));
+      right =
+          subst (λ x. Right (settingOf f) received (w .before) x) e
+          (file-right f (h .sides .file) received (w .before) (omega (arith, h .long)));
     }
 
 -- the byte at index k
-abbrev entryAt : List ℕ → ℕ → ℕ → ℕ → ℕ
-entryAt f b a k = byteOf (meaning (decoded (coderOf f) anyFlags (windowAt (outputsOf f) (b + 1 + a) k) b))
+abbrev entryAt : List ℕ → Window → ℕ → ℕ
+entryAt f w k = byteOf (meaning (decoded (coderOf f) anyFlags (windowAt (outputsOf f) (size w) k) (w .before)))
 
 filled :
-    (f : List ℕ) (b a : ℕ) (before bytes : List ℕ) → tableRefusalIn f b a before ≡ 0 →
-    table (tableSize (outputsOf f) b a) (entryAt f b a) ≡ bytes →
-    TablePromise f b a before (Done (tableSize (outputsOf f) b a)) (bytes ++ drop (tableSize (outputsOf f) b a) before)
-filled f b a before bytes z e =
-    let n = tableSize (outputsOf f) b a in
-    let h = table-accepted f b a (leb n (length before)) z in
-    let Q = EntryAt (settingOf f) (outputsOf f) (b + 1 + a) b in
+    (f : List ℕ) (w : Window) (before bytes : List ℕ) → tableRefusalIn f w (length before) true ≡ 0 →
+    table (tableSize (outputsOf f) w) (entryAt f w) ≡ bytes →
+    TablePromise f w before (Done (tableSize (outputsOf f) w)) (bytes ++ drop (tableSize (outputsOf f) w) before)
+filled f w before bytes z e =
+    let n = tableSize (outputsOf f) w in
+    let h = table-accepted f w (leb n (length before) && true) z in
     record {
       result = rw z;
       bytes =
           rw z
-          (subst (λ l. Written Q n before (l ++ drop n before)) e
-          (written-front (entryAt f b a) (leb-true _ _ (h .fits))
+          (subst (λ l. TableWritten f w before (l ++ drop n before)) e
+          (written-front (entryAt f w) (table-asked f w before true z .room)
           (λ k l.
-          let w = windowAt (outputsOf f) (b + 1 + a) k in
-          right-byte (settingOf f) w b (decoded (coderOf f) anyFlags w b)
-          (file-right f (h .sides .file) w b (omega (arith, length-window (outputsOf f) (b + 1 + a) k))))));
+          let part = windowAt (outputsOf f) (size w) k in
+          right-byte (settingOf f) part (w .before) (decoded (coderOf f) anyFlags part (w .before))
+          (file-right f (h .sides .file) part (w .before) (omega (arith, length-window (outputsOf f) (size w) k))))));
     }
 
 -- ---- A: its table for the window 1 0 is 0 1 1 0
@@ -80,9 +81,9 @@ unfolding fileRefusal headerRefusal inRange within entryInRange allBelow
 A-accepted = refl
 
 -- a buffer of five bytes, of which the last stays
-pub A-table : TablePromise fileA 1 0 (9 ∷ 9 ∷ 9 ∷ 9 ∷ 9 ∷ []) (Done 4) (0 ∷ 1 ∷ 1 ∷ 0 ∷ 9 ∷ [])
+pub A-table : TablePromise fileA (window 1 0) (9 ∷ 9 ∷ 9 ∷ 9 ∷ 9 ∷ []) (Done 4) (0 ∷ 1 ∷ 1 ∷ 0 ∷ 9 ∷ [])
 unfolding tableRefusal sidesRefusal windowAt decoded pass added add given union unionOf answerOf leadingZeros coderOf table entryOf over hasKey isEntry
-A-table = filled fileA 1 0 (9 ∷ 9 ∷ 9 ∷ 9 ∷ 9 ∷ []) (0 ∷ 1 ∷ 1 ∷ 0 ∷ []) (rw A-accepted) refl
+A-table = filled fileA (window 1 0) (9 ∷ 9 ∷ 9 ∷ 9 ∷ 9 ∷ []) (0 ∷ 1 ∷ 1 ∷ 0 ∷ []) (rw A-accepted) refl
 
 -- ---- D: its table for the window 0 1 is 0 1 0 1
 
@@ -94,9 +95,9 @@ D-accepted : fileRefusal fileD ≡ 0
 unfolding fileRefusal headerRefusal inRange within entryInRange allBelow
 D-accepted = refl
 
-pub D-table : TablePromise fileD 0 1 (9 ∷ 9 ∷ 9 ∷ 9 ∷ []) (Done 4) (0 ∷ 1 ∷ 0 ∷ 1 ∷ [])
+pub D-table : TablePromise fileD (window 0 1) (9 ∷ 9 ∷ 9 ∷ 9 ∷ []) (Done 4) (0 ∷ 1 ∷ 0 ∷ 1 ∷ [])
 unfolding tableRefusal sidesRefusal windowAt decoded pass added add given union unionOf answerOf leadingZeros coderOf table entryOf over hasKey isEntry
-D-table = filled fileD 0 1 (9 ∷ 9 ∷ 9 ∷ 9 ∷ []) (0 ∷ 1 ∷ 0 ∷ 1 ∷ []) (rw D-accepted) refl
+D-table = filled fileD (window 0 1) (9 ∷ 9 ∷ 9 ∷ 9 ∷ []) (0 ∷ 1 ∷ 0 ∷ 1 ∷ []) (rw D-accepted) refl
 
 -- ---- G: a letter, none, several
 
@@ -109,23 +110,23 @@ G-accepted : fileRefusal fileG ≡ 0
 unfolding fileRefusal headerRefusal inRange within entryInRange allBelow
 G-accepted = refl
 
-pub G-letter-0 : WindowPromise fileG 0 1 (0 ∷ 0 ∷ []) (Answered (Letter 0))
+pub G-letter-0 : WindowPromise fileG (window 0 1) (0 ∷ 0 ∷ []) (Answered (Letter 0))
 unfolding windowRefusal sidesRefusal decoded pass added add given union unionOf answerOf leadingZeros coderOf table entryOf over hasKey isEntry
-G-letter-0 = answered fileG 0 1 (0 ∷ 0 ∷ []) (Letter 0) (rw G-accepted) refl
+G-letter-0 = answered fileG (window 0 1) (0 ∷ 0 ∷ []) (Letter 0) (rw G-accepted) refl
 
-pub G-letter-1 : WindowPromise fileG 0 1 (0 ∷ 2 ∷ []) (Answered (Letter 1))
+pub G-letter-1 : WindowPromise fileG (window 0 1) (0 ∷ 2 ∷ []) (Answered (Letter 1))
 unfolding windowRefusal sidesRefusal decoded pass added add given union unionOf answerOf leadingZeros coderOf table entryOf over hasKey isEntry
-G-letter-1 = answered fileG 0 1 (0 ∷ 2 ∷ []) (Letter 1) (rw G-accepted) refl
+G-letter-1 = answered fileG (window 0 1) (0 ∷ 2 ∷ []) (Letter 1) (rw G-accepted) refl
 
-pub G-none : WindowPromise fileG 0 1 (1 ∷ 2 ∷ []) (Answered None)
+pub G-none : WindowPromise fileG (window 0 1) (1 ∷ 2 ∷ []) (Answered None)
 unfolding windowRefusal sidesRefusal decoded pass added add given union unionOf answerOf leadingZeros coderOf table entryOf over hasKey isEntry
-G-none = answered fileG 0 1 (1 ∷ 2 ∷ []) None (rw G-accepted) refl
+G-none = answered fileG (window 0 1) (1 ∷ 2 ∷ []) None (rw G-accepted) refl
 
-pub G-several : WindowPromise fileG 0 0 (0 ∷ []) (Answered Several)
+pub G-several : WindowPromise fileG (window 0 0) (0 ∷ []) (Answered Several)
 unfolding windowRefusal sidesRefusal decoded pass added add given union unionOf answerOf leadingZeros coderOf table entryOf over hasKey isEntry
-G-several = answered fileG 0 0 (0 ∷ []) Several (rw G-accepted) refl
+G-several = answered fileG (window 0 0) (0 ∷ []) Several (rw G-accepted) refl
 
 -- with one letter too few the call is refused with 9
-pub G-refused : WindowPromise fileG 0 1 (0 ∷ []) (Refused 9)
+pub G-refused : WindowPromise fileG (window 0 1) (0 ∷ []) (Refused 9)
 unfolding windowRefusal sidesRefusal
 G-refused = rw G-accepted refl

@@ -14,7 +14,7 @@ use Rattle.mealy.specs.Answer.{byteOf}
 use Rattle.coder.specs.declared.inner.tables.Coder.{Coder}
 use Rattle.pass.specs.Answer.{meaning}
 use Rattle.pass.specs.Pass.{ArraysOf, advance, pass, unionOf, answerOf}
-use Rattle.decoder.specs.Table.{windowAt, FillAsked, Filled}
+use Rattle.decoder.specs.Table.{windowAt, FillAsked, TableFilled}
 use Rattle.decoder.proofs.Indices.{window-digits}
 
 -- the byte at index k of the part of the table whose windows have `left` letters more
@@ -30,7 +30,7 @@ one-byte {left} o z e =
 pub filled-none :
     {c : Coder} {o : ℕ} {v : List ℕ} {left present x states : ℕ} (table : List ℕ) → left ≡ 0 →
     length table ≡ o ^ left → states ≡ c .states → x ≡ byteOf (meaning (answerOf (unionOf states v))) →
-    Filled c o v left present (set table 0 x)
+    TableFilled c o v left present (set table 0 x)
 unfolding windowAt pass
 filled-none {c} {o} {v} {left} {present} {x} {states} table z n e q =
     let one : o ^ left ≡ 1 = rw z (pow-zero o) in
@@ -103,7 +103,7 @@ module _ {next start entries : List ℕ} {states outputs : ℕ} {v : List ℕ} {
   pub filling-more :
       (to ys : List ℕ) → o < outputs →
       ((c : Coder) → ArraysOf c next start entries → to ≡ advance c v o (eqb present 1)) →
-      ((c : Coder) → ArraysOf c next start entries → states ≡ c .states → Filled c outputs to (left - 1) after ys) →
+      ((c : Coder) → ArraysOf c next start entries → states ≡ c .states → TableFilled c outputs to (left - 1) after ys) →
       length ys ≡ length (midOf (o * size) (o * size + size - o * size) table) →
       Filling next start entries states outputs v left present size after
       (putMid (o * size) (o * size + size - o * size) table ys) (o + 1)
@@ -139,7 +139,7 @@ module _ {next start entries : List ℕ} {states outputs : ℕ} {v : List ℕ} {
       }
 
   pub filling-end : outputs ≤ o → (c : Coder) → ArraysOf c next start entries → states ≡ c .states →
-      Filled c outputs v left present table
+      TableFilled c outputs v left present table
   filling-end l c a p =
       let e : o ≡ outputs = omega (arith, f .bound) in
       record { size = f .length-is; is = λ k lt. f .is c a p k (rw e (omega (arith, f .whole))) }

@@ -1,5 +1,5 @@
 -- The decoder table: a byte for each window, by its index.
-use mathlib.Core.Bool.{cond}
+use mathlib.Core.Bool.{Bool, true, _&&_, cond}
 use Prim.Native.Nat.{ℕ, zero, suc, _+_, _*_, _^_, _/_, _%_, _≤_, _<_}
 use mathlib.Core.Path.{_≡_}
 use mathlib.Core.List.{List, [], _∷_}
@@ -7,15 +7,16 @@ use lib.ListN.{length, getD}
 use lib.Dec.{leb}
 use Rattle.mealy.specs.Setting.{Setting}
 use Rattle.mealy.specs.Answer.{byteOf}
-use Rattle.coder.specs.Refusal.{answer}
+use Rattle.coder.specs.Limits.{maxStates, maxOutputs}
+use Rattle.coder.specs.Refusal.{answer, upon}
+use Rattle.coder.specs.File.{outputsOf, settingOf}
 use Rattle.coder.specs.declared.inner.tables.Coder.{Coder}
-use Rattle.coder.specs.File.{outputsOf}
+use Rattle.values.specs.Window.{size}
+use Rattle.values.specs.declared.Window.{Window}
 use Rattle.pass.specs.Answer.{meaning, RightByte}
-use Rattle.coder.specs.File.{settingOf}
-use Rattle.coder.specs.Refusal.{upon}
-use Rattle.decoder.specs.Written.{Written}
 use Rattle.pass.specs.Pass.{Arrays, pass, unionOf, answerOf}
-use Rattle.decoder.specs.Refusal.{tableSize, tableRefusal}
+use Rattle.decoder.specs.Written.{Written}
+use Rattle.decoder.specs.Refusal.{maxTable, tableSize, tableRefusal}
 use Rattle.decoder.specs.declared.CountResult.{CountResult}
 use Rattle.decoder.specs.declared.CountResult.the-variants.{Refused, Done}
 
@@ -32,31 +33,45 @@ windowAt o (suc n) k = k / o ^ n ∷ windowAt o n (k % o ^ n)
 abbrev pub EntryAt : Setting → ℕ → ℕ → ℕ → ℕ → ℕ → Type 0
 EntryAt S o n b k v = RightByte S (windowAt o n k) b v
 
-abbrev pub tableRefusalIn : List ℕ → ℕ → ℕ → List ℕ → ℕ
-tableRefusalIn f b a before = tableRefusal f b a (leb (tableSize (outputsOf f) b a) (length before))
+-- at each index of the window's table the right byte for that index's letters, with the buffer's old bytes after them
+abbrev pub TableWritten : List ℕ → Window → List ℕ → List ℕ → Type 0
+TableWritten f w before after =
+    Written (EntryAt (settingOf f) (outputsOf f) (size w) (w .before)) (tableSize (outputsOf f) w) before after
+
+-- the refusal where the lent buffer for the table has `room` bytes; `others` says whether the other lent buffers are long enough
+abbrev pub tableRefusalIn : List ℕ → Window → ℕ → Bool → ℕ
+tableRefusalIn f w room others = tableRefusal f w (leb (tableSize (outputsOf f) w) room && others)
 
 -- What the call returns and leaves in the lent buffer: the first refusal that applies and the buffer as it was, or the table's
 -- size, and at each index the right byte for that index's letters, with the buffer's old bytes after them.
-pub record TablePromise (f : List ℕ) (b a : ℕ) (before : List ℕ) (r : CountResult) (after : List ℕ) : Type 0 where
-  pub result : r ≡ answer (tableRefusalIn f b a before) (λ k. Refused k) (Done (tableSize (outputsOf f) b a))
-  pub bytes :
-      upon (tableRefusalIn f b a before) (λ k. after ≡ before)
-      (Written (EntryAt (settingOf f) (outputsOf f) (b + 1 + a) b) (tableSize (outputsOf f) b a) before after)
+pub record TablePromise (f : List ℕ) (w : Window) (before : List ℕ) (r : CountResult) (after : List ℕ) : Type 0 where
+  pub result : r ≡ answer (tableRefusalIn f w (length before) true) (λ k. Refused k) (Done (tableSize (outputsOf f) w))
+  pub bytes : upon (tableRefusalIn f w (length before) true) (λ k. after ≡ before) (TableWritten f w before after)
 
--- o to the power n, or 0 where that is above 65,536
+-- what the checked part of the call asks: no refusal, and room for each byte
+pub record TableAsked (f : List ℕ) (w : Window) (before : List ℕ) : Type 0 where
+  pub accepted : tableRefusal f w true ≡ 0
+  pub room : tableSize (outputsOf f) w ≤ length before
+
+-- and what it gives: the table's size, and its bytes
+pub record TableGiven (f : List ℕ) (w : Window) (before : List ℕ) (count : ℕ) (after : List ℕ) : Type 0 where
+  pub counted : count ≡ tableSize (outputsOf f) w
+  pub bytes : TableWritten f w before after
+
+-- o to the power n, or 0 where that is more than a table may have
 abbrev pub sizeOf : ℕ → ℕ → ℕ
-sizeOf o n = cond (leb (o ^ n) 65536) (o ^ n) 0
+sizeOf o n = cond (leb (o ^ n) maxTable) (o ^ n) 0
 
 -- what the recursion over the letters asks: the part of the table has a byte for each window
 pub record FillAsked (next start entries : List ℕ) (states outputs left : ℕ) (table : List ℕ) : Type 0 where
   pub arrays : Arrays next start entries
-  pub states-high : states ≤ 16
+  pub states-high : states ≤ maxStates
   pub outputs-low : 1 ≤ outputs
-  pub outputs-high : outputs ≤ 64
+  pub outputs-high : outputs ≤ maxOutputs
   pub size : length table ≡ outputs ^ left
 
 -- and what it does: each byte is that of the answer after the index's letters
-pub record Filled (c : Coder) (o : ℕ) (v : List ℕ) (left present : ℕ) (table : List ℕ) : Type 0 where
+pub record TableFilled (c : Coder) (o : ℕ) (v : List ℕ) (left present : ℕ) (table : List ℕ) : Type 0 where
   pub size : length table ≡ o ^ left
   pub is :
       (k : ℕ) → k < o ^ left → getD table k 0 ≡ byteOf (meaning (answerOf (unionOf (c .states) (pass c v (windowAt o left k) present))))

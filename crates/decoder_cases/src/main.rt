@@ -1,4 +1,5 @@
 // Runs the three decoder calls on document 01's examples, on both sides of every limit, and on calls with one fault and with two.
+use values::Window;
 
 fn say(text: &[u8]) {
     io::write_all(1, text);
@@ -24,7 +25,7 @@ fn show(bytes: &[u8]) {
 // What a single window decodes to.
 fn window(label: &[u8], file: &[u8], before: usize, after: usize, received: &[u8]) {
     say(label);
-    match decoder::window(file, before, after, received) {
+    match decoder::window(file, Window { before, after }, received) {
         decoder::WindowResult::Refused(k) => {
             say(b": refused");
             number(k);
@@ -69,7 +70,7 @@ fn string(
     buffer: &mut [u8],
 ) {
     say(label);
-    outcome(decoder::string(file, before, after, received, buffer));
+    outcome(decoder::string(file, Window { before, after }, received, buffer));
     say(b", buffer");
     show(buffer);
     say(b"\n");
@@ -93,7 +94,7 @@ fn string0(label: &[u8], file: &[u8], before: usize, after: usize, received: &[u
 // What a table is filled with.
 fn table(label: &[u8], file: &[u8], before: usize, after: usize, buffer: &mut [u8]) {
     say(label);
-    outcome(decoder::table(file, before, after, buffer));
+    outcome(decoder::table(file, Window { before, after }, buffer));
     say(b", buffer");
     show(buffer);
     say(b"\n");
@@ -230,8 +231,7 @@ fn large(label: &[u8], after: usize, buffer: &mut [u8]) {
     say(label);
     outcome(decoder::table(
         b"\x01\x00\x07\x01\x02\x02\x00\x00\x00\x01",
-        8,
-        after,
+        Window { before: 8, after },
         buffer,
     ));
     say(b", bytes 0 127 128 255 256 32896 65534 65535 65536 are");

@@ -1,19 +1,10 @@
-// The places of a string that have a full window.
+// A string, place by place.
 ghost use mathlib.Core.Path.{_≡_};
-ghost use Prim.Native.Nat.{ℕ, _+_, _≤_};
 ghost use Rattle.coder.specs.declared.inner.tables.Coder.{Coder};
-ghost use Rattle.pass.specs.Pass.{Arrays, ArraysOf};
-ghost use Rattle.decoder.specs.Places.{places as placesOf, PlacesAsked, PlacesDecoded};
+ghost use Rattle.pass.specs.Pass.{ArraysOf};
+ghost use Rattle.decoder.specs.Places.{PlacesAsked, PlacesDecoded};
 use pass::inner::answer_byte;
 use pass::inner::decode;
-
-// How many places of a string of len letters have a full window.
-pub fn places(len: usize, b: usize, a: usize) -> usize
-    requires { ⌜ (b ≤ 136) × (a ≤ 136) ⌝ }
-    ensures { λ r. ⌜ r ≡ placesOf len b a ⌝ }
-{
-    if len < b + a { 0 } else { len - (b + a) }
-}
 
 // Decodes the parts of n letters that start at the first m places of the received letters, each by itself.
 pub fn decode_places<'a>(

@@ -1,43 +1,40 @@
 // The refusals of the three calls. `others` says whether the lent buffers besides the one of `room` bytes are long enough.
 ghost use mathlib.Core.Path.{_≡_};
-ghost use Prim.Native.Nat.{_≤_};
-ghost use mathlib.Core.Bool.{Bool, _&&_};
-ghost use lib.ListN.{length};
-ghost use lib.Dec.{leb};
-ghost use Rattle.coder.specs.File.{outputsOf};
-ghost use Rattle.decoder.specs.Refusal.{sidesRefusal, windowRefusal, stringRefusal, tableRefusal, tableSize};
-ghost use Rattle.decoder.specs.Places.{places as placesOf};
+ghost use Rattle.decoder.specs.Refusal.{sidesRefusal, windowRefusal};
+ghost use Rattle.decoder.specs.Places.{stringRefusalIn};
+ghost use Rattle.decoder.specs.Table.{tableRefusalIn};
+use crate::inner::sizes;
 use coder::inner::bytes::byte;
 use coder::inner::bytes::letters_below;
 use coder::inner::tables::Coder;
+use values::Window;
 
 // 1 to 6 and 8, or 0.
-pub fn sides(file: &[u8], b: usize, a: usize) -> usize
-    ensures { λ r. ⌜ r ≡ sidesRefusal (now (file .entry)) b a ⌝ }
+pub fn sides(file: &[u8], w: Window) -> usize
+    ensures { λ r. ⌜ r ≡ sidesRefusal (now (file .entry)) w ⌝ }
 {
     let k = coder::inner::file::refusal(file);
     if k != 0 {
         return k;
     }
-    if Coder::SIDE < b {
+    if Coder::SIDE < w.before {
         return 8;
     }
-    if Coder::SIDE < a {
+    if Coder::SIDE < w.after {
         return 8;
     }
     0
 }
 
 // The refusal of a single window, or 0. `fits` says whether all lent buffers are long enough.
-pub fn window(file: &[u8], b: usize, a: usize, received: &[u8], fits: bool) -> usize
-    ensures { λ r. ⌜ r ≡ windowRefusal (now (file .entry)) b a (now (received .entry)) fits ⌝ }
+pub fn window(file: &[u8], w: Window, received: &[u8], fits: bool) -> usize
+    ensures { λ r. ⌜ r ≡ windowRefusal (now (file .entry)) w (now (received .entry)) fits ⌝ }
 {
-    let k = sides(file, b, a);
+    let k = sides(file, w);
     if k != 0 {
         return k;
     }
-    let n = b + 1 + a;
-    if received.len() != n {
+    if received.len() != sizes::letters(w) {
         return 9;
     }
     if fits {
@@ -52,14 +49,14 @@ pub fn window(file: &[u8], b: usize, a: usize, received: &[u8], fits: bool) -> u
 }
 
 // The refusal of a string, or 0.
-pub fn string(file: &[u8], b: usize, a: usize, received: &[u8], room: usize, others: bool) -> usize
-    ensures { λ r. ⌜ r ≡ stringRefusal (now (file .entry)) b a (now (received .entry)) (leb (placesOf (length (now (received .entry))) b a) room && others) ⌝ }
+pub fn string(file: &[u8], w: Window, received: &[u8], room: usize, others: bool) -> usize
+    ensures { λ r. ⌜ r ≡ stringRefusalIn (now (file .entry)) w (now (received .entry)) room others ⌝ }
 {
-    let k = sides(file, b, a);
+    let k = sides(file, w);
     if k != 0 {
         return k;
     }
-    let m = crate::inner::places::places(received.len(), b, a);
+    let m = sizes::places(received.len(), w);
     if room < m {
         return 11;
     }
@@ -75,14 +72,14 @@ pub fn string(file: &[u8], b: usize, a: usize, received: &[u8], room: usize, oth
 }
 
 // The refusal of a table, or 0.
-pub fn table(file: &[u8], b: usize, a: usize, room: usize, others: bool) -> usize
-    ensures { λ r. ⌜ r ≡ tableRefusal (now (file .entry)) b a (leb (tableSize (outputsOf (now (file .entry))) b a) room && others) ⌝ }
+pub fn table(file: &[u8], w: Window, room: usize, others: bool) -> usize
+    ensures { λ r. ⌜ r ≡ tableRefusalIn (now (file .entry)) w room others ⌝ }
 {
-    let k = sides(file, b, a);
+    let k = sides(file, w);
     if k != 0 {
         return k;
     }
-    let m = crate::inner::table::size(byte(file, 5), b + 1 + a);
+    let m = crate::inner::table::size(byte(file, 5), sizes::letters(w));
     if m == 0 {
         return 10;
     }

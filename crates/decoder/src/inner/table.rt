@@ -1,25 +1,29 @@
 // The decoder table, filled letter by letter: the windows that begin alike share the pass over what they have in common.
 ghost use mathlib.Core.Path.{_≡_};
-ghost use Prim.Native.Nat.{ℕ, _≤_};
+ghost use Prim.Native.Nat.{_≤_};
+ghost use Rattle.coder.specs.Limits.{maxOutputs};
 ghost use Rattle.coder.specs.declared.inner.tables.Coder.{Coder};
 ghost use Rattle.pass.specs.Pass.{ArraysOf};
-ghost use Rattle.decoder.specs.Table.{sizeOf, FillAsked, Filled};
+ghost use Rattle.decoder.specs.Table.{sizeOf, FillAsked, TableFilled};
 use pass::inner::EMPTY;
 use pass::inner::advance;
 use pass::inner::answer;
 use pass::inner::answer_byte;
 use pass::inner::present_after;
 
-// The number of windows of n letters to base o, or 0 where there are more than 65,536.
+// The most bytes that a table may have.
+const TABLE: usize = 65536;
+
+// The number of windows of n letters to base o, or 0 where there are more than a table may have bytes.
 pub fn size(o: usize, n: usize) -> usize
-    requires { ⌜ (1 ≤ o) × (o ≤ 64) ⌝ }
+    requires { ⌜ (1 ≤ o) × (o ≤ maxOutputs) ⌝ }
     ensures { λ r. ⌜ r ≡ sizeOf o n ⌝ }
 {
     let mut size: usize = 1;
     let mut i = 0;
     while i < n {
         size *= o;
-        if 65536 < size {
+        if TABLE < size {
             return 0;
         }
         i += 1;
@@ -41,7 +45,7 @@ pub fn fill<'a>(
     table: &mut [u8],
 )
     requires { ⌜ FillAsked (now next) (now start) (now entries) states outputs left (now table) ⌝ }
-    ensures { λ _. ⌜ ((c : Coder) → ArraysOf c (now (next .entry)) (now (start .entry)) (now (entries .entry)) → states ≡ c .states → Filled c outputs (now (v .entry)) left present (now (table .exit))) ⌝ }
+    ensures { λ _. ⌜ ((c : Coder) → ArraysOf c (now (next .entry)) (now (start .entry)) (now (entries .entry)) → states ≡ c .states → TableFilled c outputs (now (v .entry)) left present (now (table .exit))) ⌝ }
 {
     if left == 0 {
         table[0] = answer_byte(answer(v, states));

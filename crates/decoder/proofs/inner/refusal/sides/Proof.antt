@@ -4,6 +4,7 @@ use native.Mathlib.Omega.{arith}
 use denote.Ref.{now}
 use borrow.Author.Needs.{needs}
 use borrow.Author.Tests.{lt-leb, le-leb}
+use Rattle.coder.specs.Limits.{maxSide}
 use Rattle.coder.specs.File.{fileRefusal}
 use Rattle.coder.proofs.Refusals.{refused-first, via}
 use Rattle.decoder.specs.Refusal.{sidesRefusal}
@@ -22,19 +23,23 @@ file-accepted c = via (c .before .refusal .ensures) (c .if1 .left)
 
 returns-2 : tie.Need-returns-2
 unfolding sidesRefusal
-returns-2 c = rw (file-accepted (c .before), lt-leb (c .before .before .before .before .args .b) 136 (omega arith))
+returns-2 c =
+    let e = c .before .before in
+    rw (file-accepted e, lt-leb (e .before .before .before .args .w .before) maxSide (omega arith))
 
 returns-3 : tie.Need-returns-3
 unfolding sidesRefusal
 returns-3 c =
-    let a = c .before .before .before .before .before .args in
-    rw (file-accepted (c .before .before), le-leb (a .b) 136 (omega arith), lt-leb (a .a) 136 (omega arith))
+    let e = c .before .before .before .before in
+    let w = e .before .before .before .args .w in
+    rw (file-accepted e, le-leb (w .before) maxSide (omega arith), lt-leb (w .after) maxSide (omega arith))
 
 returns-4 : tie.Need-returns-4
 unfolding sidesRefusal
 returns-4 c =
-    let a = c .before .before .before .before .before .args in
-    rw (file-accepted (c .before .before), le-leb (a .b) 136 (omega arith), le-leb (a .a) 136 (omega arith))
+    let e = c .before .before .before .before in
+    let w = e .before .before .before .args .w in
+    rw (file-accepted e, le-leb (w .before) maxSide (omega arith), le-leb (w .after) maxSide (omega arith))
 
 pub sides-spec : {M : Type 1} → statement M
 sides-spec = tie.close (tie.spec refusal-requires returns returns-2 returns-3 returns-4)

@@ -17,18 +17,18 @@ returns : tie.Need-returns
 unfolding stringRefusal
 returns c = refused-first _ _ (c .before .sides .ensures) (c .if1 .taken)
 
-not-refused : (c : tie.Else1) → let a = c .before .before .before .before .args in sidesRefusal (now (a .file)) (a .b) (a .a) ≡ 0
+not-refused : (c : tie.Else1) → let a = c .before .before .before .before .args in sidesRefusal (now (a .file)) (a .w) ≡ 0
 not-refused c = via (c .before .sides .ensures) (c .if1 .left)
 
 places-requires : tie.Need-places-requires
-places-requires c κs = let s = sides-accepted _ _ _ (not-refused c) in (s .before-high, s .after-high)
+places-requires c κs = let s = sides-accepted _ _ (not-refused c) in (s .before-high, s .after-high)
 
 returns-2 : tie.Need-returns-2
 unfolding stringRefusal
 returns-2 c = rw (not-refused (c .before .before), ← (c .before .places .ensures)) (search tests)
 
 byte-requires : tie.Need-byte-requires
-byte-requires c κs = omega (arith, accepted _ (sides-accepted _ _ _ (not-refused (c .before .before .before)) .file))
+byte-requires c κs = omega (arith, accepted _ (sides-accepted _ _ (not-refused (c .before .before .before)) .file))
 
 letters-below-requires : tie.Need-letters-below-requires
 letters-below-requires c κs = search needs

@@ -17,21 +17,18 @@ returns : tie.Need-returns
 unfolding windowRefusal
 returns c = refused-first _ _ (c .before .sides .ensures) (c .if1 .taken)
 
-not-refused : (c : tie.Else1) → let a = c .before .before .before .before .args in sidesRefusal (now (a .file)) (a .b) (a .a) ≡ 0
+not-refused : (c : tie.Else1) → let a = c .before .before .before .before .args in sidesRefusal (now (a .file)) (a .w) ≡ 0
 not-refused c = via (c .before .sides .ensures) (c .if1 .left)
 
-add-n : tie.Need-add-n
-add-n c = omega (arith, sides-accepted _ _ _ (not-refused c))
-
-add-n-2 : tie.Need-add-n-2
-add-n-2 c = omega (arith, sides-accepted _ _ _ (not-refused c))
+letters-requires : tie.Need-letters-requires
+letters-requires c κs = let s = sides-accepted _ _ (not-refused c) in (s .before-high, s .after-high)
 
 returns-2 : tie.Need-returns-2
 unfolding windowRefusal
-returns-2 c = rw (not-refused (c .before)) (search tests)
+returns-2 c = rw (not-refused (c .before .before), ← (c .before .letters .ensures)) (search tests)
 
 byte-requires : tie.Need-byte-requires
-byte-requires c κs = omega (arith, accepted _ (sides-accepted _ _ _ (not-refused (c .before .before)) .file))
+byte-requires c κs = omega (arith, accepted _ (sides-accepted _ _ (not-refused (c .before .before .before)) .file))
 
 letters-below-requires : tie.Need-letters-below-requires
 letters-below-requires c κs = search needs
@@ -40,19 +37,19 @@ returns-3 : tie.Need-returns-3
 unfolding windowRefusal
 returns-3 c =
     let b = c .before .before .before in
-    rw (not-refused (b .before .before), b .if3 .taken)
+    rw (not-refused (b .before .before .before), ← (b .before .before .letters .ensures), b .if3 .taken)
     (rw (← (c .before .before .byte .ensures .0), via (c .before .letters-below .ensures) (c .if4 .taken)) (search tests))
 
 returns-4 : tie.Need-returns-4
 unfolding windowRefusal
 returns-4 c =
     let b = c .before .before .before in
-    rw (not-refused (b .before .before), b .if3 .taken)
+    rw (not-refused (b .before .before .before), ← (b .before .before .letters .ensures), b .if3 .taken)
     (rw (← (c .before .before .byte .ensures .0), via (c .before .letters-below .ensures) (c .if4 .left)) (search tests))
 
 returns-5 : tie.Need-returns-5
 unfolding windowRefusal
-returns-5 c = rw (not-refused (c .before .before), c .if3 .left) (search tests)
+returns-5 c = rw (not-refused (c .before .before .before), ← (c .before .before .letters .ensures), c .if3 .left) (search tests)
 
 pub window-spec : {M : Type 1} → statement M
 window-spec =
@@ -60,8 +57,7 @@ window-spec =
     (tie.spec
     sides-requires
     returns
-    add-n
-    add-n-2
+    letters-requires
     returns-2
     byte-requires
     letters-below-requires

@@ -1,15 +1,16 @@
--- `table::size` meets its contract: before each turn the size is that of i letters, and no more than 65,536.
+-- `table::size` meets its contract: before each turn the size is that of i letters, and no more than a table may have.
 use mathlib.Core.Path.{_≡_, sym}
 use Prim.Native.Nat.{_≤_, _-_, _^_}
 use native.Mathlib.Nat.{mul-le-mul, pow-zero}
 use native.Mathlib.Omega.{arith}
 use borrow.Author.Needs.{needs}
+use Rattle.decoder.specs.Refusal.{maxTable}
 use Rattle.decoder.proofs.Sizes.{size-more, size-over, size-all}
 use Rattle.decoder.proofs.inner.table.size.Statement.{statement}
 use Rattle.decoder.proofs.inner.table.size.Tie as tie
 
 abbrev Inv-loop : tie.InvT-loop
-Inv-loop o n size₀ i₀ size i = (i ≤ n) × (size ≡ o ^ i) × (size ≤ 65536)
+Inv-loop o n size₀ i₀ size i = (i ≤ n) × (size ≡ o ^ i) × (size ≤ maxTable)
 
 abbrev μ-loop : tie.MeasureT-loop
 μ-loop o n size₀ i₀ size i = n - i

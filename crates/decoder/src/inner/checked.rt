@@ -1,0 +1,90 @@
+// The three calls once they are known not to be refused.
+ghost use mathlib.Core.Path.{_≡_};
+ghost use mathlib.Core.Bool.{true};
+ghost use Rattle.decoder.specs.Refusal.{windowRefusal};
+ghost use Rattle.decoder.specs.Window.{RightOf};
+ghost use Rattle.decoder.specs.Places.{StringAsked, StringGiven};
+ghost use Rattle.decoder.specs.Table.{TableAsked, TableGiven};
+use crate::inner::places::decode_places;
+use crate::inner::sizes;
+use crate::inner::table::fill;
+use crate::inner::table::size;
+use chains::inner::rows_by_key;
+use coder::inner::tables::Coder;
+use values::Window;
+
+// Decodes one window of received letters.
+pub fn window(file: &[u8], w: Window, received: &[u8]) -> pass::Answer
+    requires { ⌜ windowRefusal (now file) w (now received) true ≡ 0 ⌝ }
+    ensures { λ r. ⌜ RightOf (now (file .entry)) w (now (received .entry)) r ⌝ }
+{
+    let c = Coder::from_checked(file);
+    let states = c.states;
+    let inputs = c.inputs;
+    let rows = rows_by_key(&c.output, states, inputs);
+    let flags = [1u8; 16];
+    pass::inner::decode(
+        &c.next,
+        &rows.start,
+        &rows.entries,
+        states,
+        &flags,
+        received,
+        w.before,
+    )
+}
+
+// Decodes each place of a string that has a full window; returns how many bytes were written.
+pub fn string(file: &[u8], w: Window, received: &[u8], output: &mut [u8]) -> usize
+    requires { ⌜ StringAsked (now file) w (now received) (now output) ⌝ }
+    ensures { λ r. ⌜ StringGiven (now (file .entry)) w (now (received .entry)) (now (output .entry)) r (now (output .exit)) ⌝ }
+{
+    let c = Coder::from_checked(file);
+    let states = c.states;
+    let inputs = c.inputs;
+    let rows = rows_by_key(&c.output, states, inputs);
+    let flags = [1u8; 16];
+    let n = sizes::letters(w);
+    let count = sizes::places(received.len(), w);
+    decode_places(
+        &c.next,
+        &rows.start,
+        &rows.entries,
+        states,
+        &flags,
+        received,
+        w.before,
+        n,
+        count,
+        output,
+    );
+    count
+}
+
+// Fills the decoder table; returns how many bytes it has.
+pub fn table(file: &[u8], w: Window, table: &mut [u8]) -> usize
+    requires { ⌜ TableAsked (now file) w (now table) ⌝ }
+    ensures { λ r. ⌜ TableGiven (now (file .entry)) w (now (table .entry)) r (now (table .exit)) ⌝ }
+{
+    let c = Coder::from_checked(file);
+    let states = c.states;
+    let inputs = c.inputs;
+    let outputs = c.outputs;
+    let rows = rows_by_key(&c.output, states, inputs);
+    let flags = [1u8; 16];
+    let n = sizes::letters(w);
+    let count = size(outputs, n);
+    let v = pass::inner::start_sets(&flags);
+    fill(
+        &c.next,
+        &rows.start,
+        &rows.entries,
+        states,
+        outputs,
+        &v,
+        n,
+        w.before + 1,
+        &mut table[..count],
+    );
+    count
+}
