@@ -76,13 +76,19 @@ string-accepted f w received fit e =
     let s = refuse-not l _ _ (lit< tt) (q .1) in
     record { sides = sides-accepted f w (p .0); fits = q .0; letters = letters-below (outputsOf f) received (s .0) }
 
--- a call that is not refused asks its checked part rightly
+-- a call that is not refused asks its checked part rightly, and its other lent buffers are long enough
 pub string-asked :
     (f : List ℕ) (w : Window) (received before : List ℕ) (others : Bool) →
     stringRefusalIn f w received (length before) others ≡ 0 → StringAsked f w received before
 string-asked f w received before others e =
     let fits = string-accepted f w received _ e .fits in
     record { accepted = rw fits at e; room = leb-true _ _ (both-true (leb (places (length received) w) (length before)) others fits .0) }
+
+pub string-others :
+    (f : List ℕ) (w : Window) (received : List ℕ) (room : ℕ) (others : Bool) →
+    stringRefusalIn f w received room others ≡ 0 → others ≡ true
+string-others f w received room others e =
+    both-true (leb (places (length received) w) room) others (string-accepted f w received _ e .fits) .1
 
 -- ---- a table
 
@@ -106,3 +112,7 @@ pub table-asked :
 table-asked f w before others e =
     let fits = table-accepted f w _ e .fits in
     record { accepted = rw fits at e; room = leb-true _ _ (both-true (leb (tableSize (outputsOf f) w) (length before)) others fits .0) }
+
+pub table-others :
+    (f : List ℕ) (w : Window) (room : ℕ) (others : Bool) → tableRefusalIn f w room others ≡ 0 → others ≡ true
+table-others f w room others e = both-true (leb (tableSize (outputsOf f) w) room) others (table-accepted f w _ e .fits) .1

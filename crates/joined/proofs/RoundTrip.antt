@@ -1,18 +1,18 @@
 -- Demand 2, last sentence, over the promises of the three calls: what the run wrote, decoded with the window that the search reports,
 -- is the input from the first letter that has a full window to the last.
-use mathlib.Core.Path.{_≡_, refl, sym, ap, _∙_}
-use mathlib.Core.Bool.{Bool, true, false, _&&_}
-use mathlib.Core.List.{List, [], _∷_, _++_}
-use Prim.Native.Nat.{ℕ, zero, suc, _+_, _≤_, _<_}
+use mathlib.Core.Path.{_≡_, refl, ap, _∙_}
+use mathlib.Core.Bool.{true}
+use mathlib.Core.List.{List, [], _∷_}
+use Prim.Native.Nat.{ℕ, zero, suc, _≤_, _<_}
 use native.Mathlib.Omega.{arith}
-use lib.ListN.{length, getD, take, drop}
+use lib.ListN.{length, take, drop}
 use lib.Seq.{take-at}
-use lib.Dec.{leb, ltb}
+use lib.Dec.{leb}
 use borrow.Author.Tests.{lt-ltb, le-leb}
-use Rattle.mealy.specs.Machine.{Machine, outs, end, Letters}
-use Rattle.mealy.specs.Window.{Works}
+use Rattle.mealy.specs.Machine.{Machine, outs, Letters}
 use Rattle.mealy.specs.Product.{pairs}
 use Rattle.mealy.proofs.Answers.{length-outs}
+use Rattle.coder.specs.Limits.{maxSide}
 use Rattle.coder.specs.Refusal.{lettersBelow, upon}
 use Rattle.coder.specs.File.{fileRefusal, statesOf, inputsOf, outputsOf, machineOf, settingOf}
 use Rattle.coder.specs.Run.{runRefusal, runRefusalIn, RunPromise}
@@ -26,6 +26,8 @@ use Rattle.search.specs.Search.{searchRefusal, wanted, WindowReport, Says, Refu
 use Rattle.search.specs.declared.SearchResult.the-variants.{Found}
 use Rattle.search.specs.declared.Verdict.{Verdict}
 use Rattle.search.specs.declared.Verdict.the-variants.{Least, NoDecoder}
+use Rattle.values.specs.Window.{window}
+use Rattle.values.specs.declared.Window as values
 use Rattle.decoder.specs.Refusal.{sidesRefusal, stringRefusal}
 use Rattle.decoder.specs.Places.{places, stringRefusalIn, StringPromise}
 use Rattle.decoder.specs.declared.CountResult.{CountResult}
@@ -72,15 +74,17 @@ module _ (f : List ℕ) (s : ℕ) (xs : List ℕ) (file-ok : fileRefusal f ≡ 0
   unfolding runRefusal
   not-refused before l = rw (file-ok, lt-ltb s (statesOf f) start, le-leb (length xs) (length before) l, letters-test (inputsOf f) xs letters-ok)
 
-  sides-ok : (b a : ℕ) → b ≤ 136 → a ≤ 136 → sidesRefusal f b a ≡ 0
+  sides-ok : (w : values.Window) → w .before ≤ maxSide → w .after ≤ maxSide → sidesRefusal f w ≡ 0
   unfolding sidesRefusal
-  sides-ok b a l m = rw (file-ok, le-leb b 136 l, le-leb a 136 m)
+  sides-ok w l m = rw (file-ok, le-leb (w .before) maxSide l, le-leb (w .after) maxSide m)
 
   string-ok :
-      (b a : ℕ) (w before : List ℕ) → b ≤ 136 → a ≤ 136 → places (length w) b a ≤ length before → Letters (outputsOf f) w →
-      stringRefusalIn f b a w before ≡ 0
+      (w : values.Window) (received before : List ℕ) → w .before ≤ maxSide → w .after ≤ maxSide →
+      places (length received) w ≤ length before → Letters (outputsOf f) received →
+      stringRefusalIn f w received (length before) true ≡ 0
   unfolding stringRefusal
-  string-ok b a w before l m n h = rw (sides-ok b a l m, le-leb (places (length w) b a) (length before) n, letters-test (outputsOf f) w h)
+  string-ok w received before l m n h =
+      rw (sides-ok w l m, le-leb (places (length received) w) (length before) n, letters-test (outputsOf f) received h)
 
   -- the letters that a run wrote
   wrote :
@@ -95,21 +99,22 @@ module _ (f : List ℕ) (s : ℕ) (xs : List ℕ) (file-ok : fileRefusal f ≡ 0
   states-are = refl
 
   pub round-trip : (w : Window) (before₁ after₁ letters letters′ before₃ after₃ : List ℕ) (r₁ : RunResult) (r₃ : CountResult) →
-      length xs ≤ length before₁ → places (length xs) (w .before) (w .after) ≤ length before₃ →
+      length xs ≤ length before₁ → places (length xs) (window (w .before) (w .after)) ≤ length before₃ →
       RunPromise f s xs before₁ r₁ after₁ → SearchPromise f letters (Found (Least w)) letters′ →
-      StringPromise f (w .before) (w .after) (take (length xs) after₁) before₃ r₃ after₃ →
+      StringPromise f (window (w .before) (w .after)) (take (length xs) after₁) before₃ r₃ after₃ →
       RoundTrip f s xs w r₁ r₃ after₃
   round-trip w before₁ after₁ letters letters′ before₃ after₃ r₁ r₃ l m p q d =
       let o = outs (machineOf f) s xs in
+      let v = window (w .before) (w .after) in
       let report = window-report f letters letters′ w q in
-      let high : pairs (machineOf f .states) ≤ 136 = rw states-are (pairs-high (statesOf f) (a .header .limits .states-high)) in
-      let d′ : StringPromise f (w .before) (w .after) o before₃ r₃ after₃ = rw (wrote before₁ after₁ r₁ l p) at d in
+      let high : pairs (machineOf f .states) ≤ maxSide = rw states-are (pairs-high (statesOf f) (a .header .limits .states-high)) in
+      let d′ : StringPromise f v o before₃ r₃ after₃ = rw (wrote before₁ after₁ r₁ l p) at d in
       let long : length o ≡ length xs = length-outs (machineOf f) s xs in
-      let z : stringRefusalIn f (w .before) (w .after) o before₃ ≡ 0 =
-      string-ok (w .before) (w .after) o before₃ (omega (arith, report .before-small)) (omega (arith, report .after-small)) (rw long m)
+      let z : stringRefusalIn f v o (length before₃) true ≡ 0 =
+      string-ok v o before₃ (omega (arith, report .before-small)) (omega (arith, report .after-small)) (rw long m)
       (outs-letters (machineOf f) (outputsOf f) (output-below f a) s xs) in
       record {
         ran = rw (not-refused before₁ l) at (p .result);
-        counted = (rw z at (d′ .result)) ∙ ap (λ n. Done (places n (w .before) (w .after))) long;
-        back = string-comes-back f (w .before) (w .after) s xs before₃ r₃ after₃ file-ok (report .least .works) start letters-ok z d′;
+        counted = (rw z at (d′ .result)) ∙ ap (λ n. Done (places n v)) long;
+        back = string-comes-back f v s xs before₃ r₃ after₃ file-ok (report .least .works) start letters-ok z d′;
       }

@@ -1,8 +1,8 @@
 -- The starred cases hold: one computed test over the table, and a law from the test to each claim.
-use mathlib.Core.Path.{_≡_, refl, sym, ap, _∙_, subst}
-use mathlib.Core.Bool.{Bool, true, false, _&&_, cond}
+use mathlib.Core.Path.{_≡_, refl, ap, subst}
+use mathlib.Core.Bool.{Bool, true, false, _&&_}
 use mathlib.Core.List.{List, [], _∷_}
-use Prim.Native.Nat.{ℕ, zero, suc, _+_, _<_}
+use Prim.Native.Nat.{ℕ}
 use native.Mathlib.Omega.{arith}
 use lib.ListN.{length, getD}
 use lib.Dec.{ltb, eqb}
@@ -10,16 +10,16 @@ use borrow.Author.Tests.{ltb-true, eqb-true}
 use lib.Count.{leadingZeros}
 use Rattle.mealy.specs.Machine.{outs, end}
 use Rattle.mealy.specs.Answer.{byteOf}
-use Rattle.mealy.specs.LoopedPair.{LoopedPair}
 use Rattle.mealy.proofs.Plain.{any-closed}
 use Rattle.mealy.proofs.LoopedPairs.{excludes}
 use Rattle.coder.specs.Refusal.{allBelow}
-use Rattle.coder.specs.File.{within, inRange, entryInRange, headerRefusal, fileRefusal, entryOf, statesOf, inputsOf, outputsOf, machineOf, settingOf}
+use Rattle.coder.specs.File.{within, inRange, entryInRange, headerRefusal, fileRefusal, entryOf, outputsOf, machineOf, settingOf}
 use Rattle.coder.specs.Table.{table, coderOf, tableAt}
 use Rattle.coder.proofs.Refusals.{true-false, both-true, all-at}
 use Rattle.coder.proofs.Accepted.{accepted}
 use Rattle.coder.proofs.Tables.{total}
 use Rattle.chains.specs.Chain.{isEntry, hasKey, over}
+use Rattle.values.specs.Window.{window, size}
 use Rattle.pass.specs.Answer.{meaning}
 use Rattle.pass.specs.Pass.{union, given, add, added, pass, unionOf, answerOf, decoded}
 use Rattle.pass.specs.declared.Answer.{Answer}
@@ -67,7 +67,7 @@ test f (claimed.no-decoder p) = validTest (machineOf f) p
 test f claimed.different-outputs = differentTest (machineOf f)
 test f (claimed.answer b w v) = ltb b (length w) && sameAnswer (decoded (coderOf f) anyFlags w b) v
 test f (claimed.table b a bytes) =
-    (eqb (length bytes) (tableSize (outputsOf f) b a) && allBelow (length bytes) (λ k. eqb (getD bytes k 0) (entryByte f (b + 1 + a) b k)))
+    (eqb (length bytes) (tableSize (outputsOf f) (window b a)) && allBelow (length bytes) (λ k. eqb (getD bytes k 0) (entryByte f (size (window b a)) b k)))
 test f (claimed.run s xs os e) = sameList (outs (machineOf f) s xs) os && eqb (end (machineOf f) s xs) e
 
 -- ---- from the test to the claim
@@ -88,8 +88,8 @@ claim-holds f z (claimed.answer b w v) e =
     let q : decoded (coderOf f) anyFlags w b ≡ v = same-answer (decoded (coderOf f) anyFlags w b) v (t .1) in
     subst (λ (v : Answer). Holds f (claimed.answer b w v)) q (file-right f z w b (ltb-true _ _ (t .0)))
 claim-holds f z (claimed.table b a bytes) e =
-    let n = b + 1 + a in
-    let t = both-true (eqb (length bytes) (tableSize (outputsOf f) b a)) (allBelow (length bytes) (λ k. eqb (getD bytes k 0) (entryByte f n b k))) e in (
+    let n = size (window b a) in
+    let t = both-true (eqb (length bytes) (tableSize (outputsOf f) (window b a))) (allBelow (length bytes) (λ k. eqb (getD bytes k 0) (entryByte f n b k))) e in (
       eqb-true _ _ (t .0),
       λ k l.
           let w = windowAt (outputsOf f) n k in

@@ -1,5 +1,5 @@
 -- The starred cases of document 01 ("Example coders"): one table of coder files and what is claimed of each.
-use Prim.Native.Nat.{ℕ, _+_, _<_}
+use Prim.Native.Nat.{ℕ, _<_}
 use mathlib.Core.Path.{_≡_}
 use mathlib.Core.Logic.{_≢_}
 use mathlib.Core.List.{List, [], _∷_}
@@ -9,6 +9,7 @@ use Rattle.mealy.specs.Window.{Works}
 use Rattle.mealy.specs.Order.{FewestLetters, Least}
 use Rattle.mealy.specs.LoopedPair.{LoopedPair, Valid}
 use Rattle.coder.specs.File.{fileRefusal, statesOf, inputsOf, outputsOf, machineOf, settingOf}
+use Rattle.values.specs.Window as values
 use Rattle.pass.specs.Answer.{Right}
 use Rattle.pass.specs.declared.Answer.{Answer}
 use Rattle.pass.specs.declared.Answer.the-variants.{Letter, None, Several}
@@ -37,8 +38,8 @@ Holds f different-outputs =
     (s i j : ℕ) → s < statesOf f → i < inputsOf f → j < inputsOf f → i ≢ j → machineOf f .out s i ≢ machineOf f .out s j
 Holds f (answer b w v) = Right (settingOf f) w b v
 Holds f (table b a bytes) =
-    (length bytes ≡ tableSize (outputsOf f) b a) ×
-    ((k : ℕ) → k < length bytes → EntryAt (settingOf f) (outputsOf f) (b + 1 + a) b k (getD bytes k 0))
+    (length bytes ≡ tableSize (outputsOf f) (values.window b a)) ×
+    ((k : ℕ) → k < length bytes → EntryAt (settingOf f) (outputsOf f) (values.size (values.window b a)) b k (getD bytes k 0))
 Holds f (run s xs os e) = (outs (machineOf f) s xs ≡ os) × (end (machineOf f) s xs ≡ e)
 
 pub record Case : Type 0 where

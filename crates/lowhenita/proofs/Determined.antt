@@ -1,16 +1,18 @@
 -- Each call from C leaves one outcome: two that meet its promise for the same arguments are equal, number and buffers. Of the search
 -- this holds but for which looped pair is given.
-use mathlib.Core.Path.{_≡_, refl, sym, ap, ap₂, _∙_}
+use mathlib.Core.Path.{_≡_, sym, ap, ap₂, _∙_}
 use mathlib.Core.Bool.{Bool}
 use mathlib.Core.List.{List, [], _∷_}
 use mathlib.Core.Logic.{_⊎_, inl, inr}
-use Prim.Native.Nat.{ℕ, zero, suc, _+_}
+use Prim.Native.Nat.{ℕ, zero, suc}
 use lib.ListN.{length, take, drop}
 use Rattle.mealy.specs.Answer.{byteOf}
 use Rattle.mealy.specs.LoopedPair.{LoopedPair}
 use Rattle.mealy.proofs.LeastWindows.{least-unique, fewest-letters}
 use Rattle.coder.specs.Refusal.{upon}
 use Rattle.coder.specs.File.{outputsOf, settingOf}
+use Rattle.values.specs.Window.{size}
+use Rattle.values.specs.declared.Window.{Window}
 use Rattle.pass.specs.Answer.{meaning}
 use Rattle.pass.proofs.Meaning.{right-unique, right-byte-unique}
 use Rattle.decoder.specs.Refusal.{tableSize}
@@ -76,27 +78,28 @@ module _ (f before result after after₂ result′ result₂ : List ℕ) where
 -- ---- the string decoder
 
 pub decode-determined :
-    (f : List ℕ) (b a : ℕ) (w before result : List ℕ) (r q : ℕ) (after after₂ result′ result₂ : List ℕ) →
-    DecodeHosted f b a w before result r after result′ → DecodeHosted f b a w before result q after₂ result₂ →
+    (f : List ℕ) (w : Window) (received before result : List ℕ) (r q : ℕ) (after after₂ result′ result₂ : List ℕ) →
+    DecodeHosted f w received before result r after result′ → DecodeHosted f w received before result q after₂ result₂ →
     (r ≡ q) × (after ≡ after₂) × (result′ ≡ result₂)
-decode-determined f b a w before result r q after after₂ result′ result₂ h k = (
+decode-determined f w received before result r q after after₂ result′ result₂ h k = (
   h .number ∙ sym (k .number),
-  bytes-determined (ByteAt (settingOf f) w b a) (places (length w) b a) before after after₂ (decodeNumber f b a w before result)
-      (λ j x y. right-byte-unique (settingOf f) (take (b + 1 + a) (drop j w)) b) (h .bytes) (k .bytes),
+  bytes-determined (ByteAt (settingOf f) received w) (places (length received) w) before after after₂
+      (decodeNumber f w received before result)
+      (λ j x y. right-byte-unique (settingOf f) (take (size w) (drop j received)) (w .before)) (h .bytes) (k .bytes),
   h .fields ∙ sym (k .fields),
 )
 
 -- ---- the decoder table
 
 pub table-determined :
-    (f : List ℕ) (b a : ℕ) (before result : List ℕ) (r q : ℕ) (after after₂ result′ result₂ : List ℕ) →
-    TableHosted f b a before result r after result′ → TableHosted f b a before result q after₂ result₂ →
+    (f : List ℕ) (w : Window) (before result : List ℕ) (r q : ℕ) (after after₂ result′ result₂ : List ℕ) →
+    TableHosted f w before result r after result′ → TableHosted f w before result q after₂ result₂ →
     (r ≡ q) × (after ≡ after₂) × (result′ ≡ result₂)
-table-determined f b a before result r q after after₂ result′ result₂ h k = (
+table-determined f w before result r q after after₂ result′ result₂ h k = (
   h .number ∙ sym (k .number),
-  bytes-determined (EntryAt (settingOf f) (outputsOf f) (b + 1 + a) b) (tableSize (outputsOf f) b a) before after after₂
-      (tableNumber f b a before result)
-      (λ j x y. right-byte-unique (settingOf f) (windowAt (outputsOf f) (b + 1 + a) j) b) (h .bytes) (k .bytes),
+  bytes-determined (EntryAt (settingOf f) (outputsOf f) (size w) (w .before)) (tableSize (outputsOf f) w) before after after₂
+      (tableNumber f w before result)
+      (λ j x y. right-byte-unique (settingOf f) (windowAt (outputsOf f) (size w) j) (w .before)) (h .bytes) (k .bytes),
   h .fields ∙ sym (k .fields),
 )
 
@@ -119,18 +122,19 @@ module _ (f : List ℕ) (p : LoopedPair) (result result′ result₂ : List ℕ)
 
 -- ---- one window
 
-module _ (f : List ℕ) (b a : ℕ) (w result result′ result₂ : List ℕ) where
+module _ (f : List ℕ) (w : Window) (received result result′ result₂ : List ℕ) where
   answers :
-      (n : ℕ) → upon n (λ j. result′ ≡ result) (AnswerGiven f b w result result′) →
-      upon n (λ j. result₂ ≡ result) (AnswerGiven f b w result result₂) → result′ ≡ result₂
+      (n : ℕ) → upon n (λ j. result′ ≡ result) (AnswerGiven f w received result result′) →
+      upon n (λ j. result₂ ≡ result) (AnswerGiven f w received result result₂) → result′ ≡ result₂
   answers zero h k =
       h .fields
-      ∙ ap (λ v. withFields result (byteOf (meaning v) ∷ [])) (right-unique (settingOf f) w b (h .answer) (k .answer) (h .right) (k .right))
+      ∙ ap (λ v. withFields result (byteOf (meaning v) ∷ []))
+      (right-unique (settingOf f) received (w .before) (h .answer) (k .answer) (h .right) (k .right))
       ∙ sym (k .fields)
   answers (suc n) h k = h ∙ sym k
 
   pub window-determined :
-      (r q : ℕ) → WindowHosted f b a w result r result′ → WindowHosted f b a w result q result₂ →
+      (r q : ℕ) → WindowHosted f w received result r result′ → WindowHosted f w received result q result₂ →
       (r ≡ q) × (result′ ≡ result₂)
   window-determined r q h k =
-      (h .number ∙ sym (k .number), answers (windowNumber f b a w result) (h .outcome) (k .outcome))
+      (h .number ∙ sym (k .number), answers (windowNumber f w received result) (h .outcome) (k .outcome))

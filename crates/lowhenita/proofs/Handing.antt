@@ -8,27 +8,27 @@ use native.Mathlib.Omega.{arith}
 use lib.ListN.{length}
 use lib.Dec.{lit<, ltb, leb, eqb}
 use borrow.Author.Tests.{le-leb, lt-leb}
-use Rattle.mealy.specs.Machine.{end}
 use Rattle.mealy.specs.Answer.{byteOf}
 use Rattle.mealy.specs.LoopedPair.{LoopedPair, letters, Valid}
 use Rattle.coder.specs.Refusal.{refuse, answer, upon, Judges}
-use Rattle.coder.specs.File.{fileRefusal, statesOf, outputsOf, machineOf, settingOf}
+use Rattle.coder.specs.File.{fileRefusal, statesOf, settingOf}
 use Rattle.coder.specs.Run.{runRefusal, runRefusalIn, RunPromise}
 use Rattle.coder.specs.declared.RunResult.{RunResult}
 use Rattle.coder.specs.declared.RunResult.the-variants.{Refused as RunRefused, Done as RunDone}
 use Rattle.coder.proofs.Refusals.{true-false, both-right, both-false, refuse-none, first-none, answer-refused, upon-refused, upon-done}
 use Rattle.coder.proofs.Running.{run-accepted}
-use Rattle.pass.specs.Answer.{meaning, Right}
+use Rattle.values.specs.declared.Window.{Window}
+use Rattle.pass.specs.Answer.{meaning}
 use Rattle.pass.specs.declared.Answer.{Answer}
-use Rattle.decoder.specs.Refusal.{windowRefusal, stringRefusal, tableRefusal, tableSize}
-use Rattle.decoder.specs.Window.{AnsweredRight, WindowPromise}
-use Rattle.decoder.specs.Places.{places, stringRefusalIn, StringPromise}
+use Rattle.decoder.specs.Refusal.{windowRefusal}
+use Rattle.decoder.specs.Window.{RightOf, AnsweredRight, WindowPromise}
+use Rattle.decoder.specs.Places.{stringRefusalIn, StringPromise}
 use Rattle.decoder.specs.Table.{tableRefusalIn, TablePromise}
 use Rattle.decoder.specs.declared.CountResult.{CountResult}
 use Rattle.decoder.specs.declared.CountResult.the-variants.{Refused as CountRefused, Done as CountDone}
 use Rattle.decoder.specs.declared.WindowResult.{WindowResult}
 use Rattle.decoder.specs.declared.WindowResult.the-variants.{Refused as WindowRefused, Answered}
-use Rattle.decoder.proofs.Accepting.{window-accepted, string-accepted, table-accepted}
+use Rattle.decoder.proofs.Accepting.{window-accepted, string-others, table-others}
 use Rattle.search.specs.Search.{searchRefusal, wanted, Says, FoundVerdict, RefusedSearch, SearchPromise}
 use Rattle.search.specs.declared.Verdict.{Verdict}
 use Rattle.search.specs.declared.SearchResult.{SearchResult}
@@ -168,35 +168,34 @@ count-given (suc n) x a p q = differ (cc)
 
 -- ---- the string decoder
 
-module _ (f : List ℕ) (b a : ℕ) (w before result : List ℕ) where
-  abbrev string-room : Bool
-  string-room = leb (places (length w) b a) (length before)
+module _ (f : List ℕ) (w : Window) (received before result : List ℕ) where
+  abbrev string-refusal : Bool → ℕ
+  string-refusal = stringRefusalIn f w received (length before)
 
   pub decode-too-short :
-      length result < 64 → (k : ℕ) →
-      k ≡ stringRefusal f b a w (leb (places (length w) b a) (length before) && false) →
-      DecodeHosted f b a w before result k before result
+      length result < 64 → (k : ℕ) → k ≡ stringRefusalIn f w received (length before) false →
+      DecodeHosted f w received before result k before result
   decode-too-short l k e =
       let h =
-      refuses-as (ap (λ (t : Bool). stringRefusal f b a w (string-room && t)) (lt-leb 64 (length result) l))
-      record { is = e; some = λ z. true-false (string-accepted f b a w _ z .fits) (both-false string-room false refl) } in
+      refuses-as (ap string-refusal (lt-leb 64 (length result) l))
+      record { is = e; some = λ z. true-false (string-others f w received (length before) false z) refl } in
       record { number = h .is; bytes = upon-stays _ _ _ h refl; fields = stays _ _ _ h }
 
-  same-string : 64 ≤ length result → decodeNumber f b a w before result ≡ stringRefusalIn f b a w before
-  same-string l = ap (stringRefusal f b a w) (with-room string-room result l)
+  same-string : 64 ≤ length result → decodeNumber f w received before result ≡ string-refusal true
+  same-string l = ap string-refusal (le-leb 64 (length result) l)
 
-  module _ (l : 64 ≤ length result) {r : CountResult} {after : List ℕ} (p : StringPromise f b a w before r after) where
-    pub decode-refused : (k : ℕ) → r ≡ CountRefused k → DecodeHosted f b a w before result k after result
+  module _ (l : 64 ≤ length result) {r : CountResult} {after : List ℕ} (p : StringPromise f w received before r after) where
+    pub decode-refused : (k : ℕ) → r ≡ CountRefused k → DecodeHosted f w received before result k after result
     decode-refused k e =
         let h = refuses-as (same-string l) (count-told _ k _ e (p .result)) in
         record { number = h .is; bytes = rw (same-string l) (p .bytes); fields = stays _ _ _ h }
 
     pub decode-done :
         (x : ℕ) (result′ : List ℕ) → r ≡ CountDone x → result′ ≡ withFields result (x ∷ []) →
-        DecodeHosted f b a w before result 0 after result′
+        DecodeHosted f w received before result 0 after result′
     decode-done x result′ e v =
         let g = count-given _ x _ e (p .result) in
-        let z : decodeNumber f b a w before result ≡ 0 = same-string l ∙ g .0 in
+        let z : decodeNumber f w received before result ≡ 0 = same-string l ∙ g .0 in
         record {
           number = sym z;
           bytes = rw (same-string l) (p .bytes);
@@ -205,35 +204,34 @@ module _ (f : List ℕ) (b a : ℕ) (w before result : List ℕ) where
 
 -- ---- the decoder table
 
-module _ (f : List ℕ) (b a : ℕ) (before result : List ℕ) where
-  abbrev table-room : Bool
-  table-room = leb (tableSize (outputsOf f) b a) (length before)
+module _ (f : List ℕ) (w : Window) (before result : List ℕ) where
+  abbrev table-refusal : Bool → ℕ
+  table-refusal = tableRefusalIn f w (length before)
 
   pub table-too-short :
-      length result < 64 → (k : ℕ) →
-      k ≡ tableRefusal f b a (leb (tableSize (outputsOf f) b a) (length before) && false) →
-      TableHosted f b a before result k before result
+      length result < 64 → (k : ℕ) → k ≡ tableRefusalIn f w (length before) false →
+      TableHosted f w before result k before result
   table-too-short l k e =
       let h =
-      refuses-as (ap (λ (t : Bool). tableRefusal f b a (table-room && t)) (lt-leb 64 (length result) l))
-      record { is = e; some = λ z. true-false (table-accepted f b a _ z .fits) (both-false table-room false refl) } in
+      refuses-as (ap table-refusal (lt-leb 64 (length result) l))
+      record { is = e; some = λ z. true-false (table-others f w (length before) false z) refl } in
       record { number = h .is; bytes = upon-stays _ _ _ h refl; fields = stays _ _ _ h }
 
-  same-table : 64 ≤ length result → tableNumber f b a before result ≡ tableRefusalIn f b a before
-  same-table l = ap (tableRefusal f b a) (with-room table-room result l)
+  same-table : 64 ≤ length result → tableNumber f w before result ≡ table-refusal true
+  same-table l = ap table-refusal (le-leb 64 (length result) l)
 
-  module _ (l : 64 ≤ length result) {r : CountResult} {after : List ℕ} (p : TablePromise f b a before r after) where
-    pub table-refused : (k : ℕ) → r ≡ CountRefused k → TableHosted f b a before result k after result
+  module _ (l : 64 ≤ length result) {r : CountResult} {after : List ℕ} (p : TablePromise f w before r after) where
+    pub table-refused : (k : ℕ) → r ≡ CountRefused k → TableHosted f w before result k after result
     table-refused k e =
         let h = refuses-as (same-table l) (count-told _ k _ e (p .result)) in
         record { number = h .is; bytes = rw (same-table l) (p .bytes); fields = stays _ _ _ h }
 
     pub table-done :
         (x : ℕ) (result′ : List ℕ) → r ≡ CountDone x → result′ ≡ withFields result (x ∷ []) →
-        TableHosted f b a before result 0 after result′
+        TableHosted f w before result 0 after result′
     table-done x result′ e v =
         let g = count-given _ x _ e (p .result) in
-        let z : tableNumber f b a before result ≡ 0 = same-table l ∙ g .0 in
+        let z : tableNumber f w before result ≡ 0 = same-table l ∙ g .0 in
         record {
           number = sym z;
           bytes = rw (same-table l) (p .bytes);
@@ -296,42 +294,42 @@ module _ (f : List ℕ) (p : LoopedPair) (result : List ℕ) where
 
 -- ---- one window
 
-module _ (f : List ℕ) (b a : ℕ) (w result : List ℕ) where
+module _ (f : List ℕ) (w : Window) (received result : List ℕ) where
   window-told :
       (n k : ℕ) {r : WindowResult} → r ≡ WindowRefused k →
-      upon n (λ j. r ≡ WindowRefused j) (AnsweredRight f b w r) → Refuses k n
+      upon n (λ j. r ≡ WindowRefused j) (AnsweredRight f w received r) → Refuses k n
   window-told zero k e h = let q = h .is in differ (cc)
   window-told (suc n) k e h = record { is = cc; some = λ z. absurd (omega arith) }
 
   window-given :
       (n : ℕ) (v : Answer) {r : WindowResult} → r ≡ Answered v →
-      upon n (λ j. r ≡ WindowRefused j) (AnsweredRight f b w r) → (n ≡ 0) × Right (settingOf f) w b v
+      upon n (λ j. r ≡ WindowRefused j) (AnsweredRight f w received r) → (n ≡ 0) × RightOf f w received v
   window-given zero v e h = let q = h .is in let same : h .answer ≡ v = cc in (refl, rw same at (h .right))
   window-given (suc n) v e h = differ (cc)
 
   pub window-too-short :
-      length result < 64 → (k : ℕ) → k ≡ windowRefusal f b a w false → WindowHosted f b a w result k result
+      length result < 64 → (k : ℕ) → k ≡ windowRefusal f w received false → WindowHosted f w received result k result
   window-too-short l k e =
       let h =
-      refuses-as (ap (windowRefusal f b a w) (lt-leb 64 (length result) l))
-      record { is = e; some = λ z. true-false (window-accepted f b a w false z .fits) refl } in
+      refuses-as (ap (windowRefusal f w received) (lt-leb 64 (length result) l))
+      record { is = e; some = λ z. true-false (window-accepted f w received false z .fits) refl } in
       record { number = h .is; outcome = upon-stays _ _ _ h refl }
 
-  same-window : 64 ≤ length result → windowNumber f b a w result ≡ windowRefusal f b a w true
-  same-window l = ap (windowRefusal f b a w) (le-leb 64 (length result) l)
+  same-window : 64 ≤ length result → windowNumber f w received result ≡ windowRefusal f w received true
+  same-window l = ap (windowRefusal f w received) (le-leb 64 (length result) l)
 
-  module _ (l : 64 ≤ length result) {r : WindowResult} (c : WindowPromise f b a w r) where
-    pub window-refused : (k : ℕ) → r ≡ WindowRefused k → WindowHosted f b a w result k result
+  module _ (l : 64 ≤ length result) {r : WindowResult} (c : WindowPromise f w received r) where
+    pub window-refused : (k : ℕ) → r ≡ WindowRefused k → WindowHosted f w received result k result
     window-refused k e =
         let h = refuses-as (same-window l) (window-told _ k e c) in
         record { number = h .is; outcome = upon-stays _ _ _ h refl }
 
     pub window-done :
         (v : Answer) (x : ℕ) (result′ : List ℕ) → r ≡ Answered v → x ≡ byteOf (meaning v) →
-        result′ ≡ withFields result (x ∷ []) → WindowHosted f b a w result 0 result′
+        result′ ≡ withFields result (x ∷ []) → WindowHosted f w received result 0 result′
     window-done v x result′ e i u =
         let g = window-given _ v e c in
-        let z : windowNumber f b a w result ≡ 0 = same-window l ∙ g .0 in
+        let z : windowNumber f w received result ≡ 0 = same-window l ∙ g .0 in
         record {
           number = sym z;
           outcome =

@@ -1,7 +1,7 @@
 -- The promises of the calls from C ("What the part does", on calls from C: the refusal's number or 0 is returned, and the results go to
 -- a buffer of their own, 64 bytes or more). Each says by the definitions of the library's own call what the number, every other lent
 -- buffer and the result buffer are; upon refusal all buffers stay.
-use Prim.Native.Nat.{ℕ, _+_}
+use Prim.Native.Nat.{ℕ}
 use mathlib.Core.Path.{_≡_}
 use mathlib.Core.Bool.{Bool, _&&_}
 use mathlib.Core.List.{List, [], _∷_, _++_}
@@ -14,12 +14,13 @@ use Rattle.mealy.specs.LoopedPair.{LoopedPair, Valid}
 use Rattle.coder.specs.Refusal.{answer, upon, Judges}
 use Rattle.coder.specs.File.{outputsOf, machineOf, settingOf}
 use Rattle.coder.specs.Run.{runRefusal}
-use Rattle.pass.specs.Answer.{meaning, Right}
+use Rattle.values.specs.declared.Window.{Window}
+use Rattle.pass.specs.Answer.{meaning}
 use Rattle.pass.specs.declared.Answer.{Answer}
-use Rattle.decoder.specs.Written.{Written}
-use Rattle.decoder.specs.Refusal.{windowRefusal, stringRefusal, tableRefusal, tableSize}
-use Rattle.decoder.specs.Places.{places, ByteAt}
-use Rattle.decoder.specs.Table.{EntryAt}
+use Rattle.decoder.specs.Refusal.{windowRefusal, tableSize}
+use Rattle.decoder.specs.Window.{RightOf}
+use Rattle.decoder.specs.Places.{places, stringRefusalIn, StringWritten}
+use Rattle.decoder.specs.Table.{tableRefusalIn, TableWritten}
 use Rattle.search.specs.Search.{searchRefusal, wanted, Says}
 use Rattle.search.specs.declared.Verdict.{Verdict}
 use Rattle.checker.specs.Check.{checkRefusal}
@@ -70,18 +71,18 @@ pub record SearchHosted (f before result : List ℕ) (r : ℕ) (after result′ 
 
 -- ---- the string decoder
 
-abbrev pub decodeNumber : List ℕ → ℕ → ℕ → List ℕ → List ℕ → List ℕ → ℕ
-decodeNumber f b a w before result = stringRefusal f b a w (leb (places (length w) b a) (length before) && roomy result)
+abbrev pub decodeNumber : List ℕ → Window → List ℕ → List ℕ → List ℕ → ℕ
+decodeNumber f w received before result = stringRefusalIn f w received (length before) (roomy result)
 
 -- "Decoding", the sentence on strings, for a host: a right byte for each place with a full window; field 0 is the number of bytes
 -- written.
-pub record DecodeHosted (f : List ℕ) (b a : ℕ) (w before result : List ℕ) (r : ℕ) (after result′ : List ℕ) : Type 0 where
-  pub number : r ≡ decodeNumber f b a w before result
+pub record DecodeHosted (f : List ℕ) (w : Window) (received before result : List ℕ) (r : ℕ) (after result′ : List ℕ) : Type 0 where
+  pub number : r ≡ decodeNumber f w received before result
   pub bytes :
-      upon (decodeNumber f b a w before result) (λ k. after ≡ before)
-      (Written (ByteAt (settingOf f) w b a) (places (length w) b a) before after)
+      upon (decodeNumber f w received before result) (λ k. after ≡ before) (StringWritten f w received before after)
   pub fields :
-      result′ ≡ answer (decodeNumber f b a w before result) (λ k. result) (withFields result (places (length w) b a ∷ []))
+      result′ ≡
+      answer (decodeNumber f w received before result) (λ k. result) (withFields result (places (length received) w ∷ []))
 
 -- ---- the checker of looped pairs
 
@@ -101,31 +102,29 @@ pub record CheckHosted (f : List ℕ) (p : LoopedPair) (result : List ℕ) (r : 
 
 -- ---- one window
 
-abbrev pub windowNumber : List ℕ → ℕ → ℕ → List ℕ → List ℕ → ℕ
-windowNumber f b a w result = windowRefusal f b a w (roomy result)
+abbrev pub windowNumber : List ℕ → Window → List ℕ → List ℕ → ℕ
+windowNumber f w received result = windowRefusal f w received (roomy result)
 
 -- There is a right answer, and field 0 is its byte.
-pub record AnswerGiven (f : List ℕ) (b : ℕ) (w result result′ : List ℕ) : Type 0 where
+pub record AnswerGiven (f : List ℕ) (w : Window) (received result result′ : List ℕ) : Type 0 where
   pub answer : Answer
-  pub right : Right (settingOf f) w b answer
+  pub right : RightOf f w received answer
   pub fields : result′ ≡ withFields result (byteOf (meaning answer) ∷ [])
 
 -- Demand 2, second sentence, for a host: field 0 is the letter that alone fits, 254 for "none" or 255 for "several" ("Decoding", third
 -- sentence).
-pub record WindowHosted (f : List ℕ) (b a : ℕ) (w result : List ℕ) (r : ℕ) (result′ : List ℕ) : Type 0 where
-  pub number : r ≡ windowNumber f b a w result
-  pub outcome : upon (windowNumber f b a w result) (λ k. result′ ≡ result) (AnswerGiven f b w result result′)
+pub record WindowHosted (f : List ℕ) (w : Window) (received result : List ℕ) (r : ℕ) (result′ : List ℕ) : Type 0 where
+  pub number : r ≡ windowNumber f w received result
+  pub outcome : upon (windowNumber f w received result) (λ k. result′ ≡ result) (AnswerGiven f w received result result′)
 
 -- ---- the decoder table
 
-abbrev pub tableNumber : List ℕ → ℕ → ℕ → List ℕ → List ℕ → ℕ
-tableNumber f b a before result = tableRefusal f b a (leb (tableSize (outputsOf f) b a) (length before) && roomy result)
+abbrev pub tableNumber : List ℕ → Window → List ℕ → List ℕ → ℕ
+tableNumber f w before result = tableRefusalIn f w (length before) (roomy result)
 
 -- "Decoding", the sentences on the table, for a host: a right byte at each index; field 0 is the table's size.
-pub record TableHosted (f : List ℕ) (b a : ℕ) (before result : List ℕ) (r : ℕ) (after result′ : List ℕ) : Type 0 where
-  pub number : r ≡ tableNumber f b a before result
-  pub bytes :
-      upon (tableNumber f b a before result) (λ k. after ≡ before)
-      (Written (EntryAt (settingOf f) (outputsOf f) (b + 1 + a) b) (tableSize (outputsOf f) b a) before after)
+pub record TableHosted (f : List ℕ) (w : Window) (before result : List ℕ) (r : ℕ) (after result′ : List ℕ) : Type 0 where
+  pub number : r ≡ tableNumber f w before result
+  pub bytes : upon (tableNumber f w before result) (λ k. after ≡ before) (TableWritten f w before after)
   pub fields :
-      result′ ≡ answer (tableNumber f b a before result) (λ k. result) (withFields result (tableSize (outputsOf f) b a ∷ []))
+      result′ ≡ answer (tableNumber f w before result) (λ k. result) (withFields result (tableSize (outputsOf f) w ∷ []))

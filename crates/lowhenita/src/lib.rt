@@ -1,5 +1,6 @@
 // The calls for a host in C: the refusal's number or 0, and the results in a lent buffer. include/lowhenita.h describes them.
 ghost use Rattle.checker.specs.Check.{pairFrom};
+ghost use Rattle.values.specs.Window.{window};
 ghost use Rattle.lowhenita.specs.Host.{RunHosted, SearchHosted, DecodeHosted, CheckHosted, WindowHosted, TableHosted};
 
 // The bytes of the result buffer that each call wants.
@@ -58,12 +59,13 @@ pub extern "C" fn lowhenita_decode(
     output: &mut [u8],
     result: &mut [u8],
 ) -> usize
-    ensures { λ r. ⌜ DecodeHosted (now (file .entry)) before after (now (received .entry)) (now (output .entry)) (now (result .entry)) r (now (output .exit)) (now (result .exit)) ⌝ }
+    ensures { λ r. ⌜ DecodeHosted (now (file .entry)) (window before after) (now (received .entry)) (now (output .entry)) (now (result .entry)) r (now (output .exit)) (now (result .exit)) ⌝ }
 {
+    let w = values::Window { before, after };
     if result.len() < RESULT {
-        return decoder::inner::refusal::string(file, before, after, received, output.len(), false);
+        return decoder::inner::refusal::string(file, w, received, output.len(), false);
     }
-    let r = decoder::string(file, before, after, received, output);
+    let r = decoder::string(file, w, received, output);
     match r {
         decoder::CountResult::Refused(k) => k,
         decoder::CountResult::Done { count } => {
@@ -129,12 +131,13 @@ pub extern "C" fn lowhenita_window(
     received: &[u8],
     result: &mut [u8],
 ) -> usize
-    ensures { λ r. ⌜ WindowHosted (now (file .entry)) before after (now (received .entry)) (now (result .entry)) r (now (result .exit)) ⌝ }
+    ensures { λ r. ⌜ WindowHosted (now (file .entry)) (window before after) (now (received .entry)) (now (result .entry)) r (now (result .exit)) ⌝ }
 {
+    let w = values::Window { before, after };
     if result.len() < RESULT {
-        return decoder::inner::refusal::window(file, before, after, received, false);
+        return decoder::inner::refusal::window(file, w, received, false);
     }
-    let r = decoder::window(file, before, after, received);
+    let r = decoder::window(file, w, received);
     match r {
         decoder::WindowResult::Refused(k) => k,
         decoder::WindowResult::Answered(a) => {
@@ -156,12 +159,13 @@ pub extern "C" fn lowhenita_table(
     table: &mut [u8],
     result: &mut [u8],
 ) -> usize
-    ensures { λ r. ⌜ TableHosted (now (file .entry)) before after (now (table .entry)) (now (result .entry)) r (now (table .exit)) (now (result .exit)) ⌝ }
+    ensures { λ r. ⌜ TableHosted (now (file .entry)) (window before after) (now (table .entry)) (now (result .entry)) r (now (table .exit)) (now (result .exit)) ⌝ }
 {
+    let w = values::Window { before, after };
     if result.len() < RESULT {
-        return decoder::inner::refusal::table(file, before, after, table.len(), false);
+        return decoder::inner::refusal::table(file, w, table.len(), false);
     }
-    let r = decoder::table(file, before, after, table);
+    let r = decoder::table(file, w, table);
     match r {
         decoder::CountResult::Refused(k) => k,
         decoder::CountResult::Done { count } => {

@@ -8,7 +8,7 @@ string-requires : tie.Need-string-requires
 string-requires c κs = search needs
 
 returns : tie.Need-returns
-returns c = decode-too-short _ _ _ _ _ _ (c .before .if1 .taken) _ (c .string .ensures)
+returns c = decode-too-short _ _ _ _ _ (c .before .if1 .taken) _ (c .string .ensures)
 
 string-requires-2 : tie.Need-string-requires-2
 string-requires-2 c κs = search needs
@@ -27,7 +27,7 @@ same-length c = search needs
 
 returns-2 : tie.Need-returns-2
 returns-2 c =
-    decode-refused _ _ _ _ _ _ (c .before .before .before .before .before .before .before .if1 .left)
+    decode-refused _ _ _ _ _ (c .before .before .before .before .before .before .before .if1 .left)
     (c .before .before .before .before .before .string2 .ensures) _ (c .before .r .given .1)
 
 same-length-2 : tie.Need-same-length-2
@@ -38,7 +38,7 @@ same-length-3 c = search needs
 
 returns-3 : tie.Need-returns-3
 returns-3 c =
-    decode-done _ _ _ _ _ _ (c .before .before .before .before .before .before .before .before .before .before .before .if1 .left)
+    decode-done _ _ _ _ _ (c .before .before .before .before .before .before .before .before .before .before .before .if1 .left)
     (c .before .before .before .before .before .before .before .before .before .string2 .ensures) _ _
     (c .before .before .before .before .before .r2 .given .1) (c .before .before .put-one .ensures)
 

@@ -8,7 +8,7 @@ table-requires : tie.Need-table-requires
 table-requires c κs = search needs
 
 returns : tie.Need-returns
-returns c = table-too-short _ _ _ _ _ (c .before .if1 .taken) _ (c .table .ensures)
+returns c = table-too-short _ _ _ _ (c .before .if1 .taken) _ (c .table .ensures)
 
 table-requires-2 : tie.Need-table-requires-2
 table-requires-2 c κs = search needs
@@ -27,7 +27,7 @@ same-length c = search needs
 
 returns-2 : tie.Need-returns-2
 returns-2 c =
-    table-refused _ _ _ _ _ (c .before .before .before .before .before .before .before .if1 .left)
+    table-refused _ _ _ _ (c .before .before .before .before .before .before .before .if1 .left)
     (c .before .before .before .before .before .table2 .ensures) _ (c .before .r .given .1)
 
 same-length-2 : tie.Need-same-length-2
@@ -38,7 +38,7 @@ same-length-3 c = search needs
 
 returns-3 : tie.Need-returns-3
 returns-3 c =
-    table-done _ _ _ _ _ (c .before .before .before .before .before .before .before .before .before .before .before .if1 .left)
+    table-done _ _ _ _ (c .before .before .before .before .before .before .before .before .before .before .before .if1 .left)
     (c .before .before .before .before .before .before .before .before .before .table2 .ensures) _ _
     (c .before .before .before .before .before .r2 .given .1) (c .before .before .put-one .ensures)
 

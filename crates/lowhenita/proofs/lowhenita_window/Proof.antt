@@ -9,7 +9,7 @@ window-requires : tie.Need-window-requires
 window-requires c κs = search needs
 
 returns : tie.Need-returns
-returns c = window-too-short _ _ _ _ _ (c .before .if1 .taken) _ (c .window .ensures)
+returns c = window-too-short _ _ _ _ (c .before .if1 .taken) _ (c .window .ensures)
 
 window-requires-2 : tie.Need-window-requires-2
 window-requires-2 c κs = search needs
@@ -31,7 +31,7 @@ put-one-requires c κs = search needs
 
 returns-2 : tie.Need-returns-2
 returns-2 c =
-    window-refused _ _ _ _ _ (c .before .before .before .before .if1 .left) (c .before .before .before .window2 .ensures) _
+    window-refused _ _ _ _ (c .before .before .before .before .if1 .left) (c .before .before .before .window2 .ensures) _
     (c .before .r .given .1)
 
 same-length : tie.Need-same-length
@@ -39,7 +39,7 @@ same-length c = search needs
 
 returns-3 : tie.Need-returns-3
 returns-3 c =
-    window-done _ _ _ _ _ (c .before .before .before .before .before .before .before .before .before .before .if1 .left)
+    window-done _ _ _ _ (c .before .before .before .before .before .before .before .before .before .before .if1 .left)
     (c .before .before .before .before .before .before .before .before .before .window2 .ensures) _ _ _
     (c .before .before .before .before .before .before .before .r2 .given .1)
     (c .before .before .before .number .ensures .0 ∙ c .before .before .before .before .answer-byte .ensures)
