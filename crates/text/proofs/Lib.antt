@@ -1,0 +1,4 @@
+-- The laws of text in a lent buffer.
+pub mod Decimals
+pub mod Placing
+pub mod Examples

@@ -1,0 +1,65 @@
+-- Laws of bytes that are written into a buffer.
+use mathlib.Core.Path.{_≡_, refl, ap, _∙_}
+use mathlib.Core.List.{List, [], _∷_, _++_}
+use Prim.Native.Nat.{ℕ, suc, _+_, _-_, _<_, _≤_}
+use native.Mathlib.Numerals.{add-one}
+use native.Mathlib.Omega.{arith}
+use lib.ListN.{length, getD, take, set, replicate, length-append, length-replicate, replicate-append-replicate}
+use lib.Seq.{sets, take-suc, take-length, length-sets}
+use Rattle.text.specs.Written.{Written}
+
+-- ---- one after the other
+
+sets-then : (before xs ys : List ℕ) (at next : ℕ) → next ≡ at + length xs → sets (sets before at xs) next ys ≡ sets before at (xs ++ ys)
+sets-then before [] ys at next e = let p : next ≡ at = omega arith in rw p
+sets-then before (x ∷ xs) ys at next e = sets-then (set before at x) xs ys (suc at) next (omega arith)
+
+pub written-then :
+    {before middle after xs ys : List ℕ} {at place next : ℕ} → Written before at xs middle place → Written middle place ys after next →
+    Written before at (xs ++ ys) after next
+written-then {before} {middle} {after} {xs} {ys} {at} {place} {next} a b = record {
+  buffer = b .buffer ∙ ap (λ (l : List ℕ). sets l place ys) (a .buffer) ∙ sets-then before xs ys at place (a .end);
+  end = omega (arith, a .end, b .end, length-append xs ys);
+}
+
+pub written-none : (before : List ℕ) (at : ℕ) → Written before at [] before at
+written-none before at = record { buffer = refl; end = omega arith }
+
+pub written-one :
+    {before bytes : List ℕ} {at : ℕ} (out : List ℕ) (place x next : ℕ) → Written before at bytes out place → next ≡ place + 1 →
+    Written before at (bytes ++ (x ∷ [])) (set out place x) next
+written-one out place x next a e = written-then a (record { buffer = refl; end = e })
+
+-- one byte more of a word
+pub word-more :
+    {before out : List ℕ} {at place : ℕ} (bytes : List ℕ) (i next : ℕ) → i < length bytes → Written before at (take i bytes) out place →
+    next ≡ place + 1 → Written before at (take (i + 1) bytes) (set out place (getD bytes i 0)) next
+word-more {before} {out} {at} {place} bytes i next l a e = rw (add-one, take-suc bytes i 0 l) (written-one out place (getD bytes i 0) next a e)
+
+-- all of a word
+pub word-all :
+    {before out : List ℕ} {at place : ℕ} (bytes : List ℕ) (i : ℕ) → i ≤ length bytes → length bytes ≤ i →
+    Written before at (take i bytes) out place → Written before at bytes out place
+word-all bytes i l m a = let e : i ≡ length bytes = omega arith in rw (e, take-length bytes) at a
+
+-- none of one byte, one more, all
+pub fill-none : (before : List ℕ) (at byte : ℕ) → Written before at (replicate (at - at) byte) before at
+fill-none before at byte = let e : at - at ≡ 0 = omega arith in rw e (written-none before at)
+
+pub fill-more :
+    {before out : List ℕ} {at : ℕ} (byte i : ℕ) → at ≤ i → Written before at (replicate (i - at) byte) out i →
+    Written before at (replicate (i + 1 - at) byte) (set out i byte) (i + 1)
+fill-more {before} {out} {at} byte i l a =
+    let e : i + 1 - at ≡ i - at + 1 = omega arith in
+    rw (e, ← replicate-append-replicate {A = ℕ} (i - at) 1 byte) (written-one out i byte (i + 1) a refl)
+
+pub fill-all :
+    {before out : List ℕ} {at place : ℕ} (byte n m : ℕ) → n ≡ m → Written before at (replicate n byte) out place →
+    Written before at (replicate m byte) out place
+fill-all byte n m e a = rw e at a
+
+pub fill-end : {before out : List ℕ} {at place : ℕ} (byte n : ℕ) → Written before at (replicate n byte) out place → place ≡ at + n
+fill-end byte n a = omega (arith, a .end, length-replicate {A = ℕ} n byte)
+
+pub written-length : {before bytes after : List ℕ} {at next : ℕ} → Written before at bytes after next → length after ≡ length before
+written-length {before} {bytes} {after} {at} {next} a = ap length (a .buffer) ∙ length-sets before at bytes

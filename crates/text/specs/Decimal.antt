@@ -1,0 +1,19 @@
+-- A number as text, in ASCII.
+use Prim.Native.Nat.{ℕ, zero, suc, _/_}
+use mathlib.Core.Bool.{cond}
+use mathlib.Core.List.{List}
+use lib.Dec.{ltb}
+use Rattle.io.specs.Digits.{digits}
+
+-- How many digits n has: one where it is below 10, otherwise one more than n / 10. The first number bounds the recursion, and any that is
+-- not below n gives the same.
+unfoldable pub placesWithin : ℕ → ℕ → ℕ
+placesWithin zero n = 1
+placesWithin (suc k) n = cond {A = ℕ} (ltb n 10) 1 (suc (placesWithin k (n / 10)))
+
+unfoldable pub places : ℕ → ℕ
+places n = placesWithin n n
+
+-- A number in decimal, the first digit first, without leading zeros.
+unfoldable pub decimal : ℕ → List ℕ
+decimal n = digits 10 (places n) n

@@ -1,0 +1,61 @@
+// No public calls: each function writes bytes into a buffer from the place `at` on, and returns the place after them.
+ghost use mathlib.Core.List.{_++_};
+ghost use Prim.Native.Nat.{_+_, _-_, _≤_};
+ghost use lib.ListN.{length, replicate};
+ghost use Rattle.text.specs.Decimal.{decimal};
+ghost use Rattle.text.specs.Written.{Written};
+
+// A word.
+pub fn word(out: &mut [u8], at: usize, bytes: &[u8]) -> usize
+    requires { ⌜ at + length (now bytes) ≤ length (now out) ⌝ }
+    ensures { λ r. ⌜ Written (now (out .entry)) at (now (bytes .entry)) (now (out .exit)) r ⌝ }
+{
+    let mut i = 0;
+    while i < bytes.len() {
+        out[at + i] = bytes[i];
+        i += 1;
+    }
+    at + i
+}
+
+// The same byte up to the place `end`; nothing where that is not above `at`.
+fn fill(out: &mut [u8], at: usize, end: usize, byte: u8) -> usize
+    requires { ⌜ end ≤ length (now out) ⌝ }
+    ensures { λ r. ⌜ Written (now (out .entry)) at (replicate (end - at) byte) (now (out .exit)) r ⌝ }
+{
+    let mut i = at;
+    while i < end {
+        out[i] = byte;
+        i += 1;
+    }
+    i
+}
+
+// Spaces to a column, which is a place of the buffer.
+pub fn spaces(out: &mut [u8], at: usize, column: usize) -> usize
+    requires { ⌜ column ≤ length (now out) ⌝ }
+    ensures { λ r. ⌜ Written (now (out .entry)) at (replicate (column - at) 32) (now (out .exit)) r ⌝ }
+{
+    fill(out, at, column, b' ')
+}
+
+// A number in decimal, without leading zeros.
+pub fn number(out: &mut [u8], at: usize, n: usize) -> usize
+    requires { ⌜ at + length (decimal n) ≤ length (now out) ⌝ }
+    ensures { λ r. ⌜ Written (now (out .entry)) at (decimal n) (now (out .exit)) r ⌝ }
+{
+    let mut digits = [0u8; 20];
+    let k = io::decimal(n as u64, &mut digits);
+    word(out, at, &digits[..k])
+}
+
+// A number at the right end of `width` bytes, with `pad` in front of it: a space, or the digit 0 for leading zeros.
+pub fn padded(out: &mut [u8], at: usize, n: usize, width: usize, pad: u8) -> usize
+    requires { ⌜ (length (decimal n) ≤ width) × (at + width ≤ length (now out)) ⌝ }
+    ensures { λ r. ⌜ Written (now (out .entry)) at (replicate (width - length (decimal n)) pad ++ decimal n) (now (out .exit)) r ⌝ }
+{
+    let mut digits = [0u8; 20];
+    let k = io::decimal(n as u64, &mut digits);
+    let first = fill(out, at, at + width - k, pad);
+    word(out, first, &digits[..k])
+}
