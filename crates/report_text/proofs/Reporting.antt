@@ -1,5 +1,5 @@
 -- From what the reader and the search say to the report's lines.
-use mathlib.Core.Path.{_≡_, refl, sym, _∙_}
+use mathlib.Core.Path.{_≡_, refl, sym, ap, _∙_}
 use mathlib.Core.Bool.{Bool, true, false, not}
 use mathlib.Core.List.{List, _++_}
 use Prim.Native.Nat.{ℕ, zero, suc, _+_, _*_, _-_, _<_, _≤_}
@@ -22,8 +22,12 @@ use Rattle.search.specs.declared.SearchResult.{SearchResult}
 use Rattle.search.specs.declared.SearchResult.the-variants.{Refused as RefusedSearch, Found}
 use Rattle.search.specs.declared.Verdict.{Verdict}
 use Rattle.search.specs.declared.Verdict.the-variants.{Least, NoDecoder}
-use Rattle.report_text.specs.Report.{refusedText, coderLine, windowLine, noDecoderLine, TwoLines, ReportPromise}
+use Rattle.text.specs.Written.{Written}
+use Rattle.text.proofs.Placing.{written-then}
+use Rattle.report_text.specs.Text.{SecondWritten, ReportWritten}
+use Rattle.report_text.specs.Report.{refusedText, coderLine, windowLine, noDecoderLine, ReportPromise}
 use Rattle.report_text.specs.Report.SecondLine.{a-window, no-window}
+use Rattle.report_text.proofs.Lengths.{refused-length, window-length}
 
 -- ---- the reader
 
@@ -93,21 +97,34 @@ counts-short f e d =
 -- ---- the report
 
 pub report-refused :
-    (f : List ℕ) {h : Header} {k : ℕ} {text : List ℕ} → h ≡ headerOf f → h ≡ Refused k → text ≡ refusedText k →
-    ReportPromise f text
-report-refused f e d p = let r = header-refused f e d in upon-refused _ _ _ (r .by) (r .some) p
+    (f : List ℕ) {h : Header} {k n : ℕ} {before after : List ℕ} → h ≡ headerOf f → h ≡ Refused k →
+    Written before 0 (refusedText k) after n → ReportWritten f before after n
+report-refused f {h} {k} e d w =
+    let r = header-refused f e d in
+    record {
+      text = refusedText k;
+      right = upon-refused _ _ _ (r .by) (r .some) refl;
+      is = w;
+      short = omega (arith, w .end, refused-length k (refused-short f e d));
+    }
 
 pub report-accepted :
-    (f : List ℕ) {h : Header} {n i o : ℕ} {line text : List ℕ} → h ≡ headerOf f → h ≡ Counts n i o → line ≡ coderLine n i o →
-    TwoLines (settingOf f) line text → ReportPromise f text
-report-accepted f {h} {n} {i} {o} {line} {text} e d p b =
+    (f : List ℕ) {h : Header} {n i o at next : ℕ} {before middle after : List ℕ} → h ≡ headerOf f → h ≡ Counts n i o →
+    Written before 0 (coderLine n i o) middle at → at ≤ 18 → SecondWritten (settingOf f) middle at after next →
+    ReportWritten f before after next
+report-accepted f {h} {n} {i} {o} e d w l v =
     let c = header-counts f e d in
-    let q : line ≡ coderLine (statesOf f) (inputsOf f) (outputsOf f) = rw (← c .states, ← c .inputs, ← c .outputs) p in
-    upon-done _ _ _ (c .none) (rw q at b)
+    let q : coderLine n i o ≡ coderLine (statesOf f) (inputsOf f) (outputsOf f) = rw (← c .states, ← c .inputs, ← c .outputs) in
+    record {
+      text = coderLine n i o ++ v .line;
+      right = upon-done _ _ _ (c .none) (record { second = v .line; right = v .right; is = ap (λ (l : List ℕ). l ++ v .line) q });
+      is = written-then w (v .is);
+      short = omega (arith, v .short);
+    }
 
--- ---- the search, with a buffer of 1,026 bytes on an accepted file: never refused
+-- ---- the search, with as many bytes as it wants on an accepted file: never refused
 
-module _ (f before after : List ℕ) (ok : fileRefusal f ≡ 0) (long : 1026 ≡ length before) where
+module _ (f before after : List ℕ) (ok : fileRefusal f ≡ 0) (long : wanted ≡ length before) where
   not-refused : searchRefusal f (leb wanted (length before)) ≡ 0
   unfolding searchRefusal
   not-refused = let l : wanted ≤ length before = omega arith in rw (ok, le-leb wanted (length before) l)
@@ -147,13 +164,19 @@ module _ (f before after : List ℕ) (ok : fileRefusal f ≡ 0) (long : 1026 ≡
       let w = window-found p e d in
       (omega (arith, w .before-small), omega (arith, w .after-small))
 
-  pub window-behind :
-      {r : SearchResult} {v : Verdict} {w : Window} {line text : List ℕ} → SearchPromise f before r after → r ≡ Found v →
-      v ≡ Least w → text ≡ line ++ windowLine (w .before) (w .after) → TwoLines (settingOf f) line text
-  window-behind {r} {v} {w} p e d q =
-      record { second = windowLine (w .before) (w .after); right = a-window _ _ (window-found p e d .least); is = q }
+  pub window-second :
+      {r : SearchResult} {v : Verdict} {w : Window} {out out′ : List ℕ} {at next : ℕ} → SearchPromise f before r after → r ≡ Found v →
+      v ≡ Least w → Written out at (windowLine (w .before) (w .after)) out′ next → SecondWritten (settingOf f) out at out′ next
+  window-second {r} {v} {w} p e d q =
+      let l = window-short p e d in
+      record {
+        line = windowLine (w .before) (w .after);
+        right = a-window _ _ (window-found p e d .least);
+        is = q;
+        short = omega (arith, q .end, window-length (w .before) (w .after) (l .0) (l .1));
+      }
 
-  pub no-decoder-behind :
-      {r : SearchResult} {v : Verdict} {w : LoopedPair} {line text : List ℕ} → SearchPromise f before r after → r ≡ Found v →
-      v ≡ NoDecoder w → text ≡ line ++ noDecoderLine → TwoLines (settingOf f) line text
-  no-decoder-behind p e d q = record { second = noDecoderLine; right = no-window (pair-found p e d .none); is = q }
+  pub no-decoder-second :
+      {r : SearchResult} {v : Verdict} {w : LoopedPair} {out out′ : List ℕ} {at next : ℕ} → SearchPromise f before r after →
+      r ≡ Found v → v ≡ NoDecoder w → Written out at noDecoderLine out′ next → SecondWritten (settingOf f) out at out′ next
+  no-decoder-second p e d q = record { line = noDecoderLine; right = no-window (pair-found p e d .none); is = q; short = omega (arith, q .end) }

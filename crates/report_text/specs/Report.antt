@@ -1,26 +1,15 @@
 -- The report on a coder file: every byte that it prints (document 01, "The report program").
-use mathlib.Core.Bool.{cond}
-use Prim.Native.Nat.{ℕ, _+_, _/_, _%_}
+use Prim.Native.Nat.{ℕ}
 use mathlib.Core.Path.{_≡_}
 use mathlib.Core.List.{List, [], _∷_, _++_}
-use lib.Dec.{ltb}
 use Rattle.mealy.specs.Setting.{Setting}
 use Rattle.mealy.specs.Window.{Works}
 use Rattle.mealy.specs.Order.{FewestLetters, Least}
 use Rattle.coder.specs.Refusal.{upon}
+use Rattle.text.specs.Decimal.{decimal}
 use Rattle.coder.specs.File.{fileRefusal, statesOf, inputsOf, outputsOf, settingOf}
 
--- ---- numbers and words, in ASCII
-
-abbrev pub digit : ℕ → ℕ
-digit d = 48 + d
-
--- A number below 1,000 in decimal, without leading zeros.
-unfoldable pub decimal : ℕ → List ℕ
-decimal n =
-    cond (ltb n 10) (digit n ∷ [])
-    (cond (ltb n 100) (digit (n / 10) ∷ digit (n % 10) ∷ [])
-    (digit (n / 100) ∷ digit (n / 10 % 10) ∷ digit (n % 10) ∷ []))
+-- ---- words, in ASCII
 
 -- "refused ", "coder ", "window ": each with one space behind it
 abbrev pub refusedWord : List ℕ

@@ -1,27 +1,33 @@
--- A text that is written from its front on.
+-- The report's text in its bytes, and in a lent buffer.
 use Prim.Native.Nat.{ℕ, _+_, _≤_}
 use mathlib.Core.Path.{_≡_}
-use mathlib.Core.List.{List, _++_}
+use mathlib.Core.List.{List}
 use lib.ListN.{length, getD, take}
+use Rattle.mealy.specs.Setting.{Setting}
+use Rattle.text.specs.Written.{Written}
+use Rattle.report_text.specs.Report.{SecondLine, ReportPromise}
 use Rattle.report_text.specs.declared.Text.{Text}
 
--- The bytes that are written.
+-- The bytes that are the text.
 abbrev pub written : Text → List ℕ
 written t = take (t .len) (t .bytes)
 
--- the bytes past the text are 0
-abbrev pub Clear : Text → Type 0
-Clear t = (k : ℕ) → t .len ≤ k → getD (t .bytes) k 0 ≡ 0
-
--- there is room for k bytes more, all 0
-pub record Room (t : Text) (k : ℕ) : Type 0 where
+-- There are 64 bytes, and those past the text are 0.
+pub record Padded (t : Text) : Type 0 where
   pub space : length (t .bytes) ≡ 64
-  pub free : t .len + k ≤ 64
-  pub clear : Clear t
+  pub fits : t .len ≤ 64
+  pub clear : (k : ℕ) → t .len ≤ k → getD (t .bytes) k 0 ≡ 0
 
--- r is t with these bytes behind it
-pub record Appended (t : Text) (more : List ℕ) (r : Text) : Type 0 where
-  pub text : written r ≡ written t ++ more
-  pub size : r .len ≡ t .len + length more
-  pub space : length (r .bytes) ≡ 64
-  pub clear : Clear r
+-- The right second line is written from the place `at` on, in at most 15 bytes.
+pub record SecondWritten (S : Setting) (before : List ℕ) (at : ℕ) (after : List ℕ) (next : ℕ) : Type 0 where
+  pub line : List ℕ
+  pub right : SecondLine S line
+  pub is : Written before at line after next
+  pub short : next ≤ at + 15
+
+-- The report on a file is written from the buffer's front on, in at most 64 bytes.
+pub record ReportWritten (f before after : List ℕ) (n : ℕ) : Type 0 where
+  pub text : List ℕ
+  pub right : ReportPromise f text
+  pub is : Written before 0 text after n
+  pub short : n ≤ 64

@@ -1,8 +1,8 @@
 // The text of the report on a coder file. docs/public-calls.md describes the call.
 ghost use Rattle.report_text.specs.Report.{ReportPromise};
-ghost use Rattle.report_text.specs.Text.{written, Room};
+ghost use Rattle.report_text.specs.Text.{written, Padded};
 
-pub mod inner; // inner.rt: the parts of the text; no public calls
+pub mod inner; // inner.rt: the report's lines; no public calls
 
 // The first `len` bytes are the text, the others 0.
 pub struct Text {
@@ -13,18 +13,12 @@ pub struct Text {
 // What the program `report` prints for a file: the refusal, 1 to 6, or the counts and the window.
 pub fn report(file: &[u8]) -> Text
     ensures { λ r. ⌜ ReportPromise (now (file .entry)) (written r) ⌝ }
-    ensures { λ r. ⌜ Room r 0 ⌝ }
+    ensures { λ r. ⌜ Padded r ⌝ }
 {
-    let header = coder::counts(file);
-    match header {
-        coder::Header::Refused(k) => inner::refused(k),
-        coder::Header::Counts {
-            states,
-            inputs,
-            outputs,
-        } => {
-            let t = inner::coder_line(states, inputs, outputs);
-            inner::second_line(file, t)
-        }
+    let mut bytes = inner::zeros();
+    let len = inner::write(file, &mut bytes);
+    Text {
+        bytes: bytes,
+        len: len,
     }
 }

@@ -1,11 +1,11 @@
 -- Laws of bytes that are written into a buffer.
 use mathlib.Core.Path.{_≡_, refl, ap, _∙_}
-use mathlib.Core.List.{List, [], _∷_, _++_}
+use mathlib.Core.List.{List, [], _∷_, _++_, append-assoc}
 use Prim.Native.Nat.{ℕ, suc, _+_, _-_, _<_, _≤_}
 use native.Mathlib.Numerals.{add-one}
 use native.Mathlib.Omega.{arith}
 use lib.ListN.{length, getD, take, set, replicate, length-append, length-replicate, replicate-append-replicate}
-use lib.Seq.{sets, take-suc, take-length, length-sets}
+use lib.Seq.{sets, sets-eq, take-at, take-suc, take-length, length-sets, getD-set-other}
 use Rattle.text.specs.Written.{Written}
 
 -- ---- one after the other
@@ -21,6 +21,12 @@ written-then {before} {middle} {after} {xs} {ys} {at} {place} {next} a b = recor
   buffer = b .buffer ∙ ap (λ (l : List ℕ). sets l place ys) (a .buffer) ∙ sets-then before xs ys at place (a .end);
   end = omega (arith, a .end, b .end, length-append xs ys);
 }
+
+-- two at once behind what is there
+pub written-both :
+    {before middle after xs : List ℕ} {at place next : ℕ} (ys zs : List ℕ) → Written before at xs middle place →
+    Written middle place (ys ++ zs) after next → Written before at (xs ++ ys ++ zs) after next
+written-both {before} {middle} {after} {xs} ys zs a b = rw (append-assoc xs ys zs) (written-then a b)
 
 pub written-none : (before : List ℕ) (at : ℕ) → Written before at [] before at
 written-none before at = record { buffer = refl; end = omega arith }
@@ -63,3 +69,21 @@ fill-end byte n a = omega (arith, a .end, length-replicate {A = ℕ} n byte)
 
 pub written-length : {before bytes after : List ℕ} {at next : ℕ} → Written before at bytes after next → length after ≡ length before
 written-length {before} {bytes} {after} {at} {next} a = ap length (a .buffer) ∙ length-sets before at bytes
+
+-- ---- a text at the front of a buffer
+
+pub front-text :
+    {before bytes after : List ℕ} {n : ℕ} → Written before 0 bytes after n → length bytes ≤ length before → take n after ≡ bytes
+front-text {before} {bytes} {after} {n} a l =
+    let e : n ≡ length bytes = omega (arith, a .end) in
+    rw (e, a .buffer, sets-eq bytes before 0 (omega arith)) (take-at bytes _ (length bytes) refl)
+
+sets-past : (before bytes : List ℕ) (at k : ℕ) → at + length bytes ≤ k → getD (sets before at bytes) k 0 ≡ getD before k 0
+sets-past before [] at k l = refl
+sets-past before (x ∷ bytes) at k l =
+    sets-past (set before at x) bytes (suc at) k (omega arith) ∙ getD-set-other before at k x 0 (λ (e : k ≡ at). omega arith)
+
+-- the bytes past the text are as they were
+pub written-past :
+    {before bytes after : List ℕ} {at n : ℕ} → Written before at bytes after n → (k : ℕ) → n ≤ k → getD after k 0 ≡ getD before k 0
+written-past {before} {bytes} {after} {at} {n} a k l = rw (a .buffer) (sets-past before bytes at k (omega (arith, a .end)))

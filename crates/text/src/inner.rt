@@ -49,6 +49,15 @@ pub fn number(out: &mut [u8], at: usize, n: usize) -> usize
     word(out, at, &digits[..k])
 }
 
+// A word, and a number behind it.
+pub fn word_number(out: &mut [u8], at: usize, bytes: &[u8], n: usize) -> usize
+    requires { ⌜ at + length (now bytes) + length (decimal n) ≤ length (now out) ⌝ }
+    ensures { λ r. ⌜ Written (now (out .entry)) at (now (bytes .entry) ++ decimal n) (now (out .exit)) r ⌝ }
+{
+    let next = word(out, at, bytes);
+    number(out, next, n)
+}
+
 // A number at the right end of `width` bytes, with `pad` in front of it: a space, or the digit 0 for leading zeros.
 pub fn padded(out: &mut [u8], at: usize, n: usize, width: usize, pad: u8) -> usize
     requires { ⌜ (length (decimal n) ≤ width) × (at + width ≤ length (now out)) ⌝ }

@@ -28,7 +28,7 @@ slice-aggregate-write-all : tie.Need-slice-aggregate-write-all
 slice-aggregate-write-all c =
     let h = c .before .before .report .ensures .1 in
     let r = c .before .before .report .result in
-    sym (length-take-le (r .len) (r .bytes) (omega (arith, h .space, h .free)))
+    sym (length-take-le (r .len) (r .bytes) (omega (arith, h .space, h .fits)))
 
 write-all-requires : tie.Need-write-all-requires
 write-all-requires c κs = search needs

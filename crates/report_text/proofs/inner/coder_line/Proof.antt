@@ -1,90 +1,106 @@
 -- `coder_line` meets its contract.
-use Rattle.report_text.proofs.Writing.{appended-then, from-empty}
+use Rattle.text.proofs.Placing.{written-then, written-both}
+use Rattle.report_text.specs.Report.{space}
+use Rattle.report_text.proofs.Lengths.{three-digits, coder-length}
 use borrow.Author.Needs.{needs}
 use native.Mathlib.Omega.{arith}
 use Rattle.report_text.proofs.inner.coder_line.Statement.{statement}
 use Rattle.report_text.proofs.inner.coder_line.Tie as tie
 
-empty-requires : tie.Need-empty-requires
-empty-requires c κs = search needs
+slice-aggregate-word-number : tie.Need-slice-aggregate-word-number
+slice-aggregate-word-number c = search needs
 
-slice-aggregate-put : tie.Need-slice-aggregate-put
-slice-aggregate-put c = search needs
+word-number-requires : tie.Need-word-number-requires
+word-number-requires c κs =
+    let s = c .before .before .before in
+    omega (arith, three-digits (s .args .states) (s .pre .0), s .pre .3)
 
-put-requires : tie.Need-put-requires
-put-requires c κs = search needs
+slice-aggregate-word-number-2 : tie.Need-slice-aggregate-word-number-2
+slice-aggregate-word-number-2 c = search needs
 
-number-requires : tie.Need-number-requires
-number-requires c κs = search needs
+word-number-requires-2 : tie.Need-word-number-requires-2
+word-number-requires-2 c κs =
+    let n₁ = c .before .before .before .before in
+    let s = n₁ .before .before .before .before in
+    omega (
+      arith,
+      three-digits (s .args .states) (s .pre .0),
+      three-digits (s .args .inputs) (s .pre .1),
+      s .pre .3,
+      n₁ .word-number .kept .0,
+      n₁ .word-number .ensures .end,
+    )
 
-slice-aggregate-put-2 : tie.Need-slice-aggregate-put-2
-slice-aggregate-put-2 c = search needs
+slice-aggregate-word-number-3 : tie.Need-slice-aggregate-word-number-3
+slice-aggregate-word-number-3 c = search needs
 
-put-requires-2 : tie.Need-put-requires-2
-put-requires-2 c κs = search needs
+word-number-requires-3 : tie.Need-word-number-requires-3
+word-number-requires-3 c κs =
+    let n₂ = c .before .before .before .before in
+    let n₁ = n₂ .before .before .before .before .before in
+    let s = n₁ .before .before .before .before in
+    omega (
+      arith,
+      three-digits (s .args .states) (s .pre .0),
+      three-digits (s .args .inputs) (s .pre .1),
+      three-digits (s .args .outputs) (s .pre .2),
+      s .pre .3,
+      n₁ .word-number .kept .0,
+      n₁ .word-number .ensures .end,
+      n₂ .word-number2 .kept .0,
+      n₂ .word-number2 .ensures .end,
+    )
 
-number-requires-2 : tie.Need-number-requires-2
-number-requires-2 c κs = search needs
+slice-aggregate-word : tie.Need-slice-aggregate-word
+slice-aggregate-word c = search needs
 
-slice-aggregate-put-3 : tie.Need-slice-aggregate-put-3
-slice-aggregate-put-3 c = search needs
+word-requires : tie.Need-word-requires
+word-requires c κs =
+    let n₃ = c .before .before .before .before in
+    let n₂ = n₃ .before .before .before .before .before in
+    let n₁ = n₂ .before .before .before .before .before in
+    let s = n₁ .before .before .before .before in
+    omega (
+      arith,
+      three-digits (s .args .states) (s .pre .0),
+      three-digits (s .args .inputs) (s .pre .1),
+      three-digits (s .args .outputs) (s .pre .2),
+      s .pre .3,
+      n₁ .word-number .kept .0,
+      n₁ .word-number .ensures .end,
+      n₂ .word-number2 .kept .0,
+      n₂ .word-number2 .ensures .end,
+      n₃ .word-number3 .kept .0,
+      n₃ .word-number3 .ensures .end,
+    )
 
-put-requires-3 : tie.Need-put-requires-3
-put-requires-3 c κs = search needs
-
-number-requires-3 : tie.Need-number-requires-3
-number-requires-3 c κs = search needs
-
-slice-aggregate-put-4 : tie.Need-slice-aggregate-put-4
-slice-aggregate-put-4 c = search needs
-
-put-requires-4 : tie.Need-put-requires-4
-put-requires-4 c κs = search needs
+same-length : tie.Need-same-length
+same-length c = search needs
 
 returns : tie.Need-returns
 returns c =
-    let n₃ = c .before .before in
-    let p₃ = n₃ .before in
-    let n₂ = p₃ .before .before in
-    let p₂ = n₂ .before in
-    let n₁ = p₂ .before .before in
-    let p₁ = n₁ .before in
-    let e = p₁ .before .before in
-    let first = appended-then (p₁ .put .ensures) (n₁ .number .ensures .0) in
-    let second = appended-then (appended-then first (p₂ .put2 .ensures)) (n₂ .number2 .ensures .0) in
-    let third = appended-then (appended-then second (p₃ .put3 .ensures)) (n₃ .number3 .ensures .0) in (
-      from-empty (e .empty .ensures .0) (appended-then third (c .put4 .ensures)),
-      record {
-        space = c .put4 .ensures .space;
-        clear = c .put4 .ensures .clear;
-        free = omega (
-          arith,
-          e .empty .ensures .0,
-          p₁ .put .ensures .size,
-          n₁ .number .ensures .1,
-          p₂ .put2 .ensures .size,
-          n₂ .number2 .ensures .1,
-          p₃ .put3 .ensures .size,
-          n₃ .number3 .ensures .1,
-          c .put4 .ensures .size,
-        );
-      },
-    )
+    let w = c .before .before in
+    let n₃ = w .before .before .before .before .before in
+    let n₂ = n₃ .before .before .before .before .before in
+    let n₁ = n₂ .before .before .before .before .before in
+    let second = written-both space _ (n₁ .word-number .ensures) (n₂ .word-number2 .ensures) in
+    let third = written-both space _ second (n₃ .word-number3 .ensures) in
+    let line = written-then third (w .word .ensures) in
+    let s = n₁ .before .before .before .before in
+    let l = coder-length (s .args .states) (s .args .inputs) (s .args .outputs) (s .pre .0) (s .pre .1) (s .pre .2) in
+    (line, omega (arith, line .end, l))
 
 pub coder-line-spec : {M : Type 1} → statement M
 coder-line-spec =
     tie.close
     (tie.spec
-    empty-requires
-    slice-aggregate-put
-    put-requires
-    number-requires
-    slice-aggregate-put-2
-    put-requires-2
-    number-requires-2
-    slice-aggregate-put-3
-    put-requires-3
-    number-requires-3
-    slice-aggregate-put-4
-    put-requires-4
+    slice-aggregate-word-number
+    word-number-requires
+    slice-aggregate-word-number-2
+    word-number-requires-2
+    slice-aggregate-word-number-3
+    word-number-requires-3
+    slice-aggregate-word
+    word-requires
+    same-length
     returns)

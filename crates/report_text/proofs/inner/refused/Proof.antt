@@ -1,42 +1,43 @@
 -- `refused` meets its contract.
-use Rattle.report_text.proofs.Writing.{appended-then, from-empty}
+use Rattle.text.proofs.Placing.{written-then}
+use Rattle.report_text.proofs.Lengths.{three-digits}
 use borrow.Author.Needs.{needs}
+use native.Mathlib.Omega.{arith}
 use Rattle.report_text.proofs.inner.refused.Statement.{statement}
 use Rattle.report_text.proofs.inner.refused.Tie as tie
 
-empty-requires : tie.Need-empty-requires
-empty-requires c κs = search needs
+slice-aggregate-word-number : tie.Need-slice-aggregate-word-number
+slice-aggregate-word-number c = search needs
 
-slice-aggregate-put : tie.Need-slice-aggregate-put
-slice-aggregate-put c = search needs
+word-number-requires : tie.Need-word-number-requires
+word-number-requires c κs =
+    let s = c .before .before .before in
+    omega (arith, three-digits (s .args .k) (s .pre .0), s .pre .1)
 
-put-requires : tie.Need-put-requires
-put-requires c κs = search needs
+slice-aggregate-word : tie.Need-slice-aggregate-word
+slice-aggregate-word c = search needs
 
-number-requires : tie.Need-number-requires
-number-requires c κs = search needs
+word-requires : tie.Need-word-requires
+word-requires c κs =
+    let n = c .before .before .before .before in
+    let s = n .before .before .before .before in
+    omega (arith, three-digits (s .args .k) (s .pre .0), s .pre .1, n .word-number .kept .0, n .word-number .ensures .end)
 
-slice-aggregate-put-2 : tie.Need-slice-aggregate-put-2
-slice-aggregate-put-2 c = search needs
-
-put-requires-2 : tie.Need-put-requires-2
-put-requires-2 c κs = search needs
+same-length : tie.Need-same-length
+same-length c = search needs
 
 returns : tie.Need-returns
-returns c = (
-  from-empty (c .before .before .before .before .before .empty .ensures .0)
-      (appended-then (appended-then (c .before .before .before .put .ensures) (c .before .before .number .ensures .0)) (c .put2 .ensures)),
-  search needs,
-)
+returns c =
+    let w = c .before .before in
+    written-then (w .before .before .before .before .before .word-number .ensures) (w .word .ensures)
 
 pub refused-spec : {M : Type 1} → statement M
 refused-spec =
     tie.close
     (tie.spec
-    empty-requires
-    slice-aggregate-put
-    put-requires
-    number-requires
-    slice-aggregate-put-2
-    put-requires-2
+    slice-aggregate-word-number
+    word-number-requires
+    slice-aggregate-word
+    word-requires
+    same-length
     returns)

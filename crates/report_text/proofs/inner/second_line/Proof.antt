@@ -1,7 +1,7 @@
--- `second_line` meets its contract: the search is not refused, as the buffer has 1,026 bytes.
-use native.Mathlib.Omega.{arith}
-use Rattle.report_text.proofs.Reporting.{never-refused, window-short, window-behind, no-decoder-behind}
+-- `second_line` meets its contract: the search is not refused, as the buffer has the bytes that it wants.
+use Rattle.report_text.proofs.Reporting.{never-refused, window-short, window-second, no-decoder-second}
 use borrow.Author.Needs.{needs}
+use native.Mathlib.Omega.{arith}
 use Rattle.report_text.proofs.inner.second_line.Statement.{statement}
 use Rattle.report_text.proofs.inner.second_line.Tie as tie
 
@@ -23,27 +23,37 @@ enum-known-found c = search needs
 enum-known-v : tie.Need-enum-known-v
 enum-known-v c = search needs
 
--- the buffer and the start of the call, seen from the end of the search
+-- the places before: from a window found, from the end of the search
+abbrev founded : tie.After-v → tie.After-found
+founded v = v .before .before .before
+
+abbrev searched : tie.After-found → tie.After-search
+searched f = f .before .before .before
+
 abbrev buffered : tie.After-search → tie.After-buffer
 buffered s = s .before .before
 
 abbrev start : tie.After-search → tie.Start
-start s = buffered s .before .before
+start s = buffered s .before .before .before
 
 window-line-requires : tie.Need-window-line-requires
 window-line-requires c κs =
-    let f = c .before .before .before .before in
-    let s = f .before .before .before in
+    let v = c .before .before in
+    let s = searched (founded v) in
     let b = buffered s .buffer in
-    let h = window-short _ (b .result) (s .search .last .1 .0) (start s .pre .0) (b .ensures) (s .search .ensures) (f .found .given .1)
-    (c .before .v .given .1) in
-    (omega (arith, h), omega (arith, h), start s .pre .1)
+    let t = start s in
+    let h = window-short _ (b .result) (s .search .last .1 .0) (t .pre .0) (b .ensures) (s .search .ensures) (founded v .found .given .1)
+    (v .v .given .1) in
+    (omega (arith, h), omega (arith, h), omega (arith, t .pre .1))
 
 enum-told-2 : tie.Need-enum-told-2
 enum-told-2 c = search needs
 
-no-decoder-line-requires : tie.Need-no-decoder-line-requires
-no-decoder-line-requires c κs = search needs
+slice-aggregate-word : tie.Need-slice-aggregate-word
+slice-aggregate-word c = search needs
+
+word-requires : tie.Need-word-requires
+word-requires c κs = search needs
 
 returns : tie.Need-returns
 returns c =
@@ -52,25 +62,30 @@ returns c =
     absurd
     (never-refused _ (b .result) (s .search .last .1 .0) (start s .pre .0) (b .ensures) (s .search .ensures) (c .enum-told .given .1))
 
+same-length : tie.Need-same-length
+same-length c = search needs
+
 returns-2 : tie.Need-returns-2
 returns-2 c =
-    let f = c .before .before .before .before .before in
-    let s = f .before .before .before in
-    let b = buffered s .buffer in (
-      window-behind _ (b .result) (s .search .last .1 .0) (start s .pre .0) (b .ensures) (s .search .ensures) (f .found .given .1)
-          (c .before .before .v .given .1) (c .window-line .ensures .0),
-      c .window-line .ensures .1,
-    )
+    let w = c .before .before in
+    let v = w .before .before .before in
+    let s = searched (founded v) in
+    let b = buffered s .buffer in
+    window-second _ (b .result) (s .search .last .1 .0) (start s .pre .0) (b .ensures) (s .search .ensures) (founded v .found .given .1)
+    (v .v .given .1) (w .window-line .ensures)
+
+same-length-2 : tie.Need-same-length-2
+same-length-2 c = search needs
 
 returns-3 : tie.Need-returns-3
 returns-3 c =
-    let f = c .before .before .before .before in
-    let s = f .before .before .before in
-    let b = buffered s .buffer in (
-      no-decoder-behind _ (b .result) (s .search .last .1 .0) (start s .pre .0) (b .ensures) (s .search .ensures) (f .found .given .1)
-          (c .before .enum-told2 .given .1) (c .no-decoder-line .ensures .0),
-      c .no-decoder-line .ensures .1,
-    )
+    let w = c .before .before in
+    let v = w .before .before .before in
+    let f = v .before .before .before in
+    let s = searched f in
+    let b = buffered s .buffer in
+    no-decoder-second _ (b .result) (s .search .last .1 .0) (start s .pre .0) (b .ensures) (s .search .ensures) (f .found .given .1)
+    (v .enum-told2 .given .1) (w .word .ensures)
 
 pub second-line-spec : {M : Type 1} → statement M
 second-line-spec =
@@ -84,7 +99,10 @@ second-line-spec =
     enum-known-v
     window-line-requires
     enum-told-2
-    no-decoder-line-requires
+    slice-aggregate-word
+    word-requires
     returns
+    same-length
     returns-2
+    same-length-2
     returns-3)

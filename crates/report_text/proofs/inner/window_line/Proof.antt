@@ -1,49 +1,74 @@
 -- `window_line` meets its contract.
-use Rattle.report_text.proofs.Writing.{appended-then}
+use Rattle.text.proofs.Placing.{written-then, written-both}
+use Rattle.report_text.specs.Report.{space}
+use Rattle.report_text.proofs.Lengths.{three-digits}
 use borrow.Author.Needs.{needs}
+use native.Mathlib.Omega.{arith}
 use Rattle.report_text.proofs.inner.window_line.Statement.{statement}
 use Rattle.report_text.proofs.inner.window_line.Tie as tie
 
-slice-aggregate-put : tie.Need-slice-aggregate-put
-slice-aggregate-put c = search needs
+slice-aggregate-word-number : tie.Need-slice-aggregate-word-number
+slice-aggregate-word-number c = search needs
 
-put-requires : tie.Need-put-requires
-put-requires c κs = search needs
+word-number-requires : tie.Need-word-number-requires
+word-number-requires c κs =
+    let s = c .before .before .before in
+    omega (arith, three-digits (s .args .before) (s .pre .0), s .pre .2)
 
-number-requires : tie.Need-number-requires
-number-requires c κs = search needs
+slice-aggregate-word-number-2 : tie.Need-slice-aggregate-word-number-2
+slice-aggregate-word-number-2 c = search needs
 
-slice-aggregate-put-2 : tie.Need-slice-aggregate-put-2
-slice-aggregate-put-2 c = search needs
+word-number-requires-2 : tie.Need-word-number-requires-2
+word-number-requires-2 c κs =
+    let n₁ = c .before .before .before .before in
+    let s = n₁ .before .before .before .before in
+    omega (
+      arith,
+      three-digits (s .args .before) (s .pre .0),
+      three-digits (s .args .after) (s .pre .1),
+      s .pre .2,
+      n₁ .word-number .kept .0,
+      n₁ .word-number .ensures .end,
+    )
 
-put-requires-2 : tie.Need-put-requires-2
-put-requires-2 c κs = search needs
+slice-aggregate-word : tie.Need-slice-aggregate-word
+slice-aggregate-word c = search needs
 
-number-requires-2 : tie.Need-number-requires-2
-number-requires-2 c κs = search needs
+word-requires : tie.Need-word-requires
+word-requires c κs =
+    let n₂ = c .before .before .before .before in
+    let n₁ = n₂ .before .before .before .before .before in
+    let s = n₁ .before .before .before .before in
+    omega (
+      arith,
+      three-digits (s .args .before) (s .pre .0),
+      three-digits (s .args .after) (s .pre .1),
+      s .pre .2,
+      n₁ .word-number .kept .0,
+      n₁ .word-number .ensures .end,
+      n₂ .word-number2 .kept .0,
+      n₂ .word-number2 .ensures .end,
+    )
 
-slice-aggregate-put-3 : tie.Need-slice-aggregate-put-3
-slice-aggregate-put-3 c = search needs
-
-put-requires-3 : tie.Need-put-requires-3
-put-requires-3 c κs = search needs
+same-length : tie.Need-same-length
+same-length c = search needs
 
 returns : tie.Need-returns
 returns c =
-    let b = appended-then (c .before .before .before .before .before .before .put .ensures) (c .before .before .before .before .before .number .ensures .0) in
-    let a = appended-then (appended-then b (c .before .before .before .put2 .ensures)) (c .before .before .number2 .ensures .0) in
-    (appended-then a (c .put3 .ensures) .text, search needs)
+    let w = c .before .before in
+    let n₂ = w .before .before .before .before .before in
+    let n₁ = n₂ .before .before .before .before .before in
+    written-then (written-both space _ (n₁ .word-number .ensures) (n₂ .word-number2 .ensures)) (w .word .ensures)
 
 pub window-line-spec : {M : Type 1} → statement M
 window-line-spec =
     tie.close
     (tie.spec
-    slice-aggregate-put
-    put-requires
-    number-requires
-    slice-aggregate-put-2
-    put-requires-2
-    number-requires-2
-    slice-aggregate-put-3
-    put-requires-3
+    slice-aggregate-word-number
+    word-number-requires
+    slice-aggregate-word-number-2
+    word-number-requires-2
+    slice-aggregate-word
+    word-requires
+    same-length
     returns)
