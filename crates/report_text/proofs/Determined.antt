@@ -11,7 +11,7 @@ use Rattle.mealy.proofs.LeastWindows.{least-unique, fewest-letters}
 use Rattle.coder.specs.File.{fileRefusal, statesOf, inputsOf, outputsOf, settingOf}
 use Rattle.report_text.specs.Report.{coderLine, SecondLine, ReportPromise}
 use Rattle.report_text.specs.Report.SecondLine.{a-window, no-window}
-use Rattle.report_text.specs.Text.{written, Padded}
+use Rattle.report_text.specs.Text.{textOf, Padded}
 use Rattle.report_text.specs.declared.Text.{Text}
 
 second-determined : (S : Setting) (x y : List ℕ) → SecondLine S x → SecondLine S y → x ≡ y
@@ -39,8 +39,8 @@ text-determined f x y = go (fileRefusal f) refl
         v ∙ sym w
 
 -- one text stands in one way in the bytes
-module _ (r r′ : Text) (h : Padded r) (h′ : Padded r′) (e : written r ≡ written r′) where
-  size : (t : Text) → Padded t → length (written t) ≡ t .len
+module _ (r r′ : Text) (h : Padded r) (h′ : Padded r′) (e : textOf r ≡ textOf r′) where
+  size : (t : Text) → Padded t → length (textOf t) ≡ t .len
   size t k = length-take-le (t .len) (t .bytes) (omega (arith, k .space, k .fits))
 
   same-size : r .len ≡ r′ .len
@@ -62,5 +62,5 @@ module _ (r r′ : Text) (h : Padded r) (h′ : Padded r′) (e : written r ≡ 
   same-text = ap₂ (λ (x : List ℕ) (n : ℕ). record { bytes = x; len = n }) same-bytes same-size
 
 pub report-determined :
-    (f : List ℕ) (r r′ : Text) → ReportPromise f (written r) → Padded r → ReportPromise f (written r′) → Padded r′ → r ≡ r′
-report-determined f r r′ p h q h′ = same-text r r′ h h′ (text-determined f (written r) (written r′) p q)
+    (f : List ℕ) (r r′ : Text) → ReportPromise f (textOf r) → Padded r → ReportPromise f (textOf r′) → Padded r′ → r ≡ r′
+report-determined f r r′ p h q h′ = same-text r r′ h h′ (text-determined f (textOf r) (textOf r′) p q)

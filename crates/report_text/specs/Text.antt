@@ -9,8 +9,8 @@ use Rattle.report_text.specs.Report.{SecondLine, ReportPromise}
 use Rattle.report_text.specs.declared.Text.{Text}
 
 -- The bytes that are the text.
-abbrev pub written : Text → List ℕ
-written t = take (t .len) (t .bytes)
+abbrev pub textOf : Text → List ℕ
+textOf t = take (t .len) (t .bytes)
 
 -- There are 64 bytes, and those past the text are 0.
 pub record Padded (t : Text) : Type 0 where

@@ -1,6 +1,6 @@
 // The text of the report on a coder file. docs/public-calls.md describes the call.
 ghost use Rattle.report_text.specs.Report.{ReportPromise};
-ghost use Rattle.report_text.specs.Text.{written, Padded};
+ghost use Rattle.report_text.specs.Text.{textOf, Padded};
 
 pub mod inner; // inner.rt: the report's lines; no public calls
 
@@ -12,13 +12,10 @@ pub struct Text {
 
 // What the program `report` prints for a file: the refusal, 1 to 6, or the counts and the window.
 pub fn report(file: &[u8]) -> Text
-    ensures { λ r. ⌜ ReportPromise (now (file .entry)) (written r) ⌝ }
+    ensures { λ r. ⌜ ReportPromise (now (file .entry)) (textOf r) ⌝ }
     ensures { λ r. ⌜ Padded r ⌝ }
 {
     let mut bytes = inner::zeros();
     let len = inner::write(file, &mut bytes);
-    Text {
-        bytes: bytes,
-        len: len,
-    }
+    Text { bytes, len }
 }

@@ -6,10 +6,10 @@ use native.Mathlib.Nat.{pow-suc, one-le-pow}
 use native.Mathlib.Decide.{decLt}
 use native.Mathlib.Numerals.{unary-clauses}
 use native.Mathlib.Omega.{arith}
-use lib.ListN.{length, getD, length-append}
+use lib.ListN.{length, getD, length-append, length-replicate}
 use borrow.Author.Tests.{lt-ltb, le-ltb}
 use Rattle.io.specs.Digits.{glyph, digits, Fewest}
-use Rattle.text.specs.Decimal.{placesWithin, places, decimal}
+use Rattle.text.specs.Decimal.{placesWithin, places, decimal, paddedTo}
 
 -- ---- how many digits
 
@@ -148,3 +148,8 @@ reads-within (suc k) n p = elim (decLt n 10) [
 
 pub decimal-reads : (n : ℕ) → readFrom 0 (decimal n) ≡ n
 decimal-reads n = reads-within n n (omega arith)
+
+-- ---- padded to a width
+
+pub padded-length : (width pad n : ℕ) → length (decimal n) ≤ width → length (paddedTo width pad n) ≡ width
+padded-length width pad n l = simp (length-append, length-replicate) (omega arith)

@@ -2,7 +2,7 @@
 use mathlib.Core.Path.{_≡_, refl}
 use mathlib.Core.List.{[], _∷_}
 use native.Mathlib.Omega.{arith}
-use Rattle.text.specs.Decimal.{placesWithin, places, decimal}
+use Rattle.text.specs.Decimal.{placesWithin, places, decimal, paddedTo}
 use Rattle.text.proofs.Decimals.{decimal-of}
 
 one-digit : (decimal 0 ≡ 48 ∷ []) × (decimal 9 ≡ 57 ∷ [])
@@ -20,3 +20,8 @@ three-digits = (refl, refl, refl)
 twenty-digits :
     49 ∷ 56 ∷ 52 ∷ 52 ∷ 54 ∷ 55 ∷ 52 ∷ 52 ∷ 48 ∷ 55 ∷ 51 ∷ 55 ∷ 48 ∷ 57 ∷ 53 ∷ 53 ∷ 49 ∷ 54 ∷ 49 ∷ 53 ∷ [] ≡ decimal 18446744073709551615
 twenty-digits = decimal-of 20 18446744073709551615 (omega arith, omega arith, λ l. omega arith) refl
+
+-- "00042" and " 42"
+forty-two : (paddedTo 5 48 42 ≡ 48 ∷ 48 ∷ 48 ∷ 52 ∷ 50 ∷ []) × (paddedTo 3 32 42 ≡ 32 ∷ 52 ∷ 50 ∷ [])
+unfolding decimal places placesWithin
+forty-two = (refl, refl)

@@ -2,7 +2,7 @@
 ghost use mathlib.Core.List.{_++_};
 ghost use Prim.Native.Nat.{_+_, _-_, _≤_};
 ghost use lib.ListN.{length, replicate};
-ghost use Rattle.text.specs.Decimal.{decimal};
+ghost use Rattle.text.specs.Decimal.{decimal, paddedTo};
 ghost use Rattle.text.specs.Written.{Written};
 
 // A word.
@@ -61,7 +61,7 @@ pub fn word_number(out: &mut [u8], at: usize, bytes: &[u8], n: usize) -> usize
 // A number at the right end of `width` bytes, with `pad` in front of it: a space, or the digit 0 for leading zeros.
 pub fn padded(out: &mut [u8], at: usize, n: usize, width: usize, pad: u8) -> usize
     requires { ⌜ (length (decimal n) ≤ width) × (at + width ≤ length (now out)) ⌝ }
-    ensures { λ r. ⌜ Written (now (out .entry)) at (replicate (width - length (decimal n)) pad ++ decimal n) (now (out .exit)) r ⌝ }
+    ensures { λ r. ⌜ Written (now (out .entry)) at (paddedTo width pad n) (now (out .exit)) r ⌝ }
 {
     let mut digits = [0u8; 20];
     let k = io::decimal(n as u64, &mut digits);
