@@ -1,28 +1,29 @@
 -- What a check that is not refused may rely on, and what it then gives.
-use mathlib.Core.Path.{_≡_, refl, subst}
+use mathlib.Core.Path.{_≡_, refl}
 use mathlib.Core.Bool.{Bool, not, _&&_}
 use mathlib.Core.List.{List}
-use Prim.Native.Nat.{ℕ, zero, suc, _*_, _<_, _≤_}
-use native.Mathlib.Omega.{arith}
+use Prim.Native.Nat.{ℕ, _*_, _<_}
 use lib.ListN.{length}
 use lib.Dec.{lit<, ltb, eqb}
 use borrow.Author.Tests.{ltb-true, eqb-true}
-use Rattle.mealy.specs.Machine.{Machine, Letters}
-use Rattle.mealy.specs.Setting.{anyState}
+use Rattle.mealy.specs.Machine.{Letters}
+use Rattle.mealy.specs.Setting.{worded}
 use Rattle.mealy.specs.LoopedPair.{LoopedPair, letters, Valid}
-use Rattle.coder.specs.Refusal.{refuse, lettersBelow, upon}
-use Rattle.coder.specs.File.{fileRefusal, statesOf, inputsOf, machineOf, settingOf}
-use Rattle.coder.specs.Table.{coderOf, machineIn}
+use Rattle.mealy.proofs.SameSettings.{valid-same, same-sym}
+use Rattle.coder.specs.Refusal.{refuse, lettersBelow}
+use Rattle.coder.specs.File.{fileRefusal, statesOf, inputsOf, settingOf}
+use Rattle.coder.specs.Table.{coderOf, machineOfCoder}
 use Rattle.coder.specs.declared.inner.tables.Coder.{Coder}
-use Rattle.coder.proofs.Refusals.{both-true, refuse-not, first-none, letters-below, letters-higher}
+use Rattle.coder.proofs.Refusals.{both-true, refuse-not, first-none, letters-below}
 use Rattle.coder.proofs.Accepted.{accepted}
-use Rattle.coder.proofs.Tables.{machine-same, sound-coder}
-use Rattle.checker.specs.Check.{checkRefusal, CheckedRight}
 use Rattle.coder.specs.Refusal.{Judges}
-use Rattle.checker.specs.Follow.{Followable}
+use Rattle.setting.specs.Words.{WordsOf}
+use Rattle.setting.proofs.Same.{coder-sound, same-setting}
+use Rattle.checker.specs.Check.{checkRefusal, CheckedRight}
+use Rattle.checker.specs.Follow.{CheckOf}
 use Rattle.checker.specs.declared.CheckResult.the-variants.{Checked}
+use Rattle.checker.proofs.Judging.{judges-map}
 
--- a call that returns with the refusal that it was told, and one that is not refused
 pub record CheckAccepted (f : List ℕ) (p : LoopedPair) : Type 0 where
   pub file : fileRefusal f ≡ 0
   pub first-state : p .s < statesOf f
@@ -58,30 +59,25 @@ right {answer = answer} j = record { answer = answer; is = refl; yes′ = j .yes
 
 -- on the tables of the file
 module _ {c : Coder} {f : List ℕ} {p : LoopedPair} (e : c ≡ coderOf f) (r : CheckAccepted f p) where
-  pub followable : Followable (c .next) (p .s) (p .t) (p .bytes)
+  pub check-of : CheckOf c (c .next) (c .output) p
   unfolding coderOf
-  followable =
-      let a = accepted f (r .file) in
-      let h = a .header .limits in
-      rw e
-      record {
-        next-state = λ s i. omega (arith, sound-coder f a .next-state s i);
-        first = omega arith;
-        second = omega arith;
-        letters = letters-higher (inputsOf f) 16 (p .bytes) (h .inputs-high) (r .below);
-      }
+  check-of = record {
+    tables = record {
+      sound = coder-sound e (accepted f (r .file));
+      next-is = refl;
+      output-is = refl;
+      bytes-are = refl;
+      below = rw e (r .below);
+    };
+    first = rw e (r .first-state);
+    second = rw e (r .second-state);
+    size = r .size;
+  }
 
-  same : machineIn (statesOf f) (inputsOf f) (c .next) (c .output) ≡ machineOf f
-  unfolding coderOf
-  same = rw e (machine-same f (accepted f (r .file)))
-
-  pub checked-right :
-      {answer : Bool} →
-      ((n i : ℕ) → p .s < n → p .t < n → n ≤ 16 → Letters i (p .bytes) →
-      Judges (Valid (anyState (machineIn n i (c .next) (c .output))) p) answer) →
-      CheckedRight f p (Checked answer)
-  checked-right {answer} h =
-      let high = accepted f (r .file) .header .limits .states-high in
-      right
-      (subst (λ (M : Machine). Judges (Valid (anyState M) p) answer) same
-      (h (statesOf f) (inputsOf f) (r .first-state) (r .second-state) high (r .below)))
+  -- what is judged in the setting of the words is judged in that of the file
+  pub file-judged :
+      {starts : ℕ} {conflicts : List ℕ} {answer : Bool} → WordsOf c starts conflicts →
+      Judges (Valid (worded (machineOfCoder c) starts conflicts) p) answer → Judges (Valid (settingOf f) p) answer
+  file-judged w =
+      let m = same-setting e (accepted f (r .file)) w in
+      judges-map (valid-same m p) (valid-same (same-sym m) p)

@@ -4,15 +4,15 @@ use mathlib.Core.Bool.{true, false}
 use mathlib.Core.List.{List, [], _∷_}
 use Prim.Native.Nat.{ℕ}
 use native.Mathlib.Omega.{arith}
-use Rattle.mealy.specs.LoopedPair.{LoopedPair, first, second, Valid}
+use Rattle.mealy.specs.LoopedPair.{LoopedPair, first, second, inputsOf, Valid}
 use Rattle.coder.specs.Refusal.{allBelow}
 use Rattle.coder.specs.File.{within, inRange, entryInRange, headerRefusal, fileRefusal, entryOf, machineOf, settingOf}
 use Rattle.coder.proofs.Refusals.{letters-below}
-use Rattle.checker.specs.Check.{pairFrom, checkRefusal, CheckPromise}
-use Rattle.checker.specs.declared.CheckResult.the-variants.{Checked}
 use Rattle.coder.proofs.Refusals.{upon-done}
+use Rattle.values.specs.Pair.{pairOf, loopedPair}
+use Rattle.checker.specs.Check.{checkRefusal, CheckPromise}
+use Rattle.checker.specs.declared.CheckResult.the-variants.{Checked}
 use Rattle.checker.proofs.Checking.{right}
-use Rattle.checker.proofs.Parts.{letters-within}
 use Rattle.checker.proofs.Judging.{judges-yes, judges-not}
 
 -- 01 00 07 01 02 01 00 00 00 00
@@ -30,7 +30,7 @@ not-valid p e h = upon-done _ _ _ e (right (judges-not h))
 
 -- loops of one letter each, and different letters between them
 abbrev pairC : LoopedPair
-pairC = pairFrom 0 0 1 0 0 1 (0 ∷ 0 ∷ 0 ∷ 1 ∷ 0 ∷ 0 ∷ [])
+pairC = pairOf (loopedPair 0 0 1 0 0 1) (0 ∷ 0 ∷ 0 ∷ 1 ∷ 0 ∷ 0 ∷ [])
 
 C-not-refused : checkRefusal fileC pairC true ≡ 0
 unfolding checkRefusal
@@ -41,7 +41,7 @@ unfolding machineOf entryOf
 C-valid = record {
   held = omega arith;
   start = λ r. elim r [ first ↦ omega arith | second ↦ omega arith ];
-  below = λ r. letters-within 2 pairC r (letters-below 2 (pairC .bytes) refl) 0 3 (omega arith);
+  below = λ r. elim r [ first ↦ letters-below 2 (inputsOf pairC first) refl | second ↦ letters-below 2 (inputsOf pairC second) refl ];
   back-letter = omega arith;
   forward-letter = omega arith;
   outputs = refl;
@@ -55,7 +55,7 @@ C-checked = upon-done _ _ _ C-not-refused (right (judges-yes C-valid))
 
 -- no letter in the back loop
 abbrev emptyLoop : LoopedPair
-emptyLoop = pairFrom 0 0 0 0 0 1 (0 ∷ 1 ∷ 0 ∷ 0 ∷ [])
+emptyLoop = pairOf (loopedPair 0 0 0 0 0 1) (0 ∷ 1 ∷ 0 ∷ 0 ∷ [])
 
 empty-not-refused : checkRefusal fileC emptyLoop true ≡ 0
 unfolding checkRefusal
@@ -66,7 +66,7 @@ C-empty-loop = not-valid emptyLoop empty-not-refused (λ v. omega (arith, v .bac
 
 -- equal letters at the mark
 abbrev equalLetters : LoopedPair
-equalLetters = pairFrom 0 0 1 0 0 1 (0 ∷ 0 ∷ 0 ∷ 0 ∷ 0 ∷ 0 ∷ [])
+equalLetters = pairOf (loopedPair 0 0 1 0 0 1) (0 ∷ 0 ∷ 0 ∷ 0 ∷ 0 ∷ 0 ∷ [])
 
 equal-not-refused : checkRefusal fileC equalLetters true ≡ 0
 unfolding checkRefusal

@@ -1,7 +1,7 @@
 -- Laws of the pair checker.
 pub mod Judging
 pub mod Following
-pub mod Parts
+pub mod PartsJudged
 pub mod Checking
 pub mod Decisions
 pub mod Determined

@@ -11,11 +11,6 @@ use Rattle.coder.specs.File.{fileRefusal, statesOf, inputsOf, settingOf}
 use Rattle.checker.specs.declared.CheckResult.{CheckResult}
 use Rattle.checker.specs.declared.CheckResult.the-variants.{Refused, Checked}
 
--- The pair that a call is given: starts, four lengths and bytes.
-abbrev pub pairFrom : ℕ → ℕ → ℕ → ℕ → ℕ → ℕ → List ℕ → LoopedPair
-pairFrom s t b i o f bytes =
-    record { s = s; t = t; back-loop = b; lead-in = i; lead-out = o; forward-loop = f; bytes = bytes }
-
 -- The call's refusal, in checking order: 1 to 6, then 7 (a start state), 9 (the bytes are not twice the letters, the four lengths and
 -- one added as whole numbers), 11 (some lent buffer is too short) and 12 (an input letter).
 unfoldable pub checkRefusal : List ℕ → LoopedPair → Bool → ℕ

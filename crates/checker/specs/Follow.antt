@@ -1,30 +1,56 @@
 -- Following the two runs of a pair over some of its places.
-use Prim.Native.Nat.{ℕ, _<_}
+use Prim.Native.Nat.{ℕ, _+_, _*_, _≤_, _<_}
 use mathlib.Core.Path.{_≡_}
 use mathlib.Core.Bool.{Bool, true, false}
 use mathlib.Core.List.{List}
-use Rattle.mealy.specs.Machine.{Machine, outs, end, Letters}
-use Rattle.mealy.specs.LoopedPair.{LoopedPair, first, second, lettersFrom}
-use Rattle.coder.specs.Table.{tableAt}
+use lib.ListN.{length}
+use Rattle.mealy.specs.Machine.{Machine, Letters}
+use Rattle.mealy.specs.Setting.{worded}
+use Rattle.mealy.specs.LoopedPair.{LoopedPair, letters, Valid}
+use Rattle.mealy.specs.Walk.{Part, Parts}
+use Rattle.coder.specs.Refusal.{Judges}
+use Rattle.coder.specs.Table.{machineOfCoder, Sound}
+use Rattle.coder.specs.declared.inner.tables.Coder.{Coder}
 use Rattle.checker.specs.declared.inner.follow.Followed.{Followed}
 
--- what the functions on the tables ask
-pub record Followable (next : List ℕ) (s t : ℕ) (bytes : List ℕ) : Type 0 where
-  pub next-state : (s i : ℕ) → tableAt next s i < 16
-  pub first : s < 16
-  pub second : t < 16
-  pub letters : Letters 16 bytes
+-- The tables are those of the coder c, and the bytes are those of the pair p and input letters of c.
+pub record TablesOf (c : Coder) (p : LoopedPair) (next output bytes : List ℕ) : Type 0 where
+  pub sound : Sound c
+  pub next-is : c .next ≡ next
+  pub output-is : c .output ≡ output
+  pub bytes-are : p .bytes ≡ bytes
+  pub below : Letters (c .inputs) bytes
 
--- From (s, t), n letters from `place` on: whether the outputs are equal throughout, and if they are, the two states at the end.
+-- what following n letters from `place` on asks, from the states s and t
+pub record FollowAsked (next output bytes : List ℕ) (s t place n : ℕ) : Type 0 where
+  pub c : Coder
+  pub p : LoopedPair
+  pub tables : TablesOf c p next output bytes
+  pub first : s < c .states
+  pub second : t < c .states
+  pub within : 2 * (place + n) ≤ length bytes
+
+-- They have equal outputs throughout and lead to the two states told, or there is no such walk.
 pub record Follows (M : Machine) (p : LoopedPair) (s t place n : ℕ) (r : Followed) : Type 0 where
-  pub equal : r .ok ≡ true → outs M s (lettersFrom p first place n) ≡ outs M t (lettersFrom p second place n)
-  pub end₁ : r .ok ≡ true → r .u ≡ end M s (lettersFrom p first place n)
-  pub end₂ : r .ok ≡ true → r .v ≡ end M t (lettersFrom p second place n)
-  pub unequal : r .ok ≡ false → outs M s (lettersFrom p first place n) ≡ outs M t (lettersFrom p second place n) → ⊥
+  pub walk : r .ok ≡ true → Part M p place n s t (r .u) (r .v)
+  pub none : r .ok ≡ false → (u v : ℕ) → Part M p place n s t u v → ⊥
 
--- both runs come back to where they were, after at least one letter and with equal outputs
-pub record Closes (M : Machine) (p : LoopedPair) (s t place n : ℕ) : Type 0 where
-  pub some : 0 < n
-  pub equal : outs M s (lettersFrom p first place n) ≡ outs M t (lettersFrom p second place n)
-  pub end₁ : end M s (lettersFrom p first place n) ≡ s
-  pub end₂ : end M t (lettersFrom p second place n) ≡ t
+-- The tables are those of the coder c, and the pair is one that is not refused for c.
+pub record CheckOf (c : Coder) (next output : List ℕ) (p : LoopedPair) : Type 0 where
+  pub tables : TablesOf c p next output (p .bytes)
+  pub first : p .s < c .states
+  pub second : p .t < c .states
+  pub size : length (p .bytes) ≡ 2 * letters p
+
+pub record CheckAsked (next output : List ℕ) (p : LoopedPair) : Type 0 where
+  pub c : Coder
+  pub of : CheckOf c next output p
+
+-- r says, for each coder of which the tables are, whether the pair's letters run as they should; and whether the pair is valid in the
+-- setting of the words.
+abbrev pub JudgesParts : List ℕ → List ℕ → LoopedPair → Bool → Type 0
+JudgesParts next output p r = (c : Coder) → CheckOf c next output p → Judges (Parts (machineOfCoder c) p) r
+
+abbrev pub JudgesValid : List ℕ → List ℕ → ℕ → List ℕ → LoopedPair → Bool → Type 0
+JudgesValid next output starts conflicts p r =
+    (c : Coder) → CheckOf c next output p → Judges (Valid (worded (machineOfCoder c) starts conflicts) p) r

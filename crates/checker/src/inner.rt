@@ -1,3 +1,24 @@
 // No public calls: what the library's own crates call on checked bytes and on tables. Some of these have a `requires`.
+ghost use mathlib.Core.Bool.{true};
+ghost use mathlib.Core.Path.{_≡_};
+ghost use Rattle.mealy.specs.LoopedPair.{Valid};
+ghost use Rattle.coder.specs.File.{settingOf};
+ghost use Rattle.coder.specs.Refusal.{Judges};
+ghost use Rattle.values.specs.Pair.{pairOf};
+ghost use Rattle.checker.specs.Check.{checkRefusal};
+use coder::inner::tables::Coder;
+use values::LoopedPair;
+
 pub mod refusal; // refusal.rt: the refusal of a check
 pub mod follow; // follow.rt: the two runs of a pair on the tables
+
+// Whether a pair that is not refused is valid.
+pub fn checked(file: &[u8], pair: LoopedPair, letters: &[u8]) -> bool
+    requires { ⌜ checkRefusal (now file) (pairOf pair (now letters)) true ≡ 0 ⌝ }
+    ensures { λ r. ⌜ Judges (Valid (settingOf (now (file .entry))) (pairOf pair (now (letters .entry)))) r ⌝ }
+{
+    let c = Coder::from_checked(file);
+    let starts = setting::inner::start_states(c);
+    let conflicts = setting::inner::different_letters();
+    follow::valid(&c.next, &c.output, starts, &conflicts, pair, letters)
+}

@@ -1,5 +1,7 @@
 // The checker of looped pairs from anyone. docs/public-calls.md describes the call.
-ghost use Rattle.checker.specs.Check.{pairFrom, CheckPromise};
+ghost use Rattle.values.specs.Pair.{pairOf};
+ghost use Rattle.checker.specs.Check.{CheckPromise};
+use values::LoopedPair;
 
 pub mod inner; // inner.rt: what the crates above call on checked bytes; no public calls
 
@@ -9,43 +11,13 @@ pub enum CheckResult {
     Checked(bool),
 }
 
-// Whether a looped pair is valid: two start states, four lengths, and two bytes for each letter. Refusals 1 to 6, 7, 9, 12.
-pub fn check(
-    file: &[u8],
-    s: usize,
-    t: usize,
-    back_loop: usize,
-    lead_in: usize,
-    lead_out: usize,
-    forward_loop: usize,
-    letters: &[u8],
-) -> CheckResult
-    ensures { λ r. ⌜ CheckPromise (now (file .entry)) (pairFrom s t «back_loop» «lead_in» «lead_out» «forward_loop» (now (letters .entry))) r ⌝ }
+// Whether a looped pair is valid: its starts and lengths, and two bytes for each letter. Refusals 1 to 6, 7, 9, 12.
+pub fn check(file: &[u8], pair: LoopedPair, letters: &[u8]) -> CheckResult
+    ensures { λ r. ⌜ CheckPromise (now (file .entry)) (pairOf pair (now (letters .entry))) r ⌝ }
 {
-    let k = inner::refusal::check(
-        file,
-        s,
-        t,
-        back_loop,
-        lead_in,
-        lead_out,
-        forward_loop,
-        letters,
-        true,
-    );
+    let k = inner::refusal::check(file, pair, letters, true);
     if k != 0 {
         return CheckResult::Refused(k);
     }
-    let c = coder::inner::tables::Coder::from_checked(file);
-    CheckResult::Checked(inner::follow::valid(
-        &c.next,
-        &c.output,
-        s,
-        t,
-        back_loop,
-        lead_in,
-        lead_out,
-        forward_loop,
-        letters,
-    ))
+    CheckResult::Checked(inner::checked(file, pair, letters))
 }

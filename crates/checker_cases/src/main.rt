@@ -1,4 +1,6 @@
 // Runs the pair checker on valid pairs, on pairs with one fault, and on calls that are refused, with one fault and with two.
+use values::LoopedPair;
+
 mod pairs; // pairs.rt: valid pairs, and pairs with one fault
 mod refusals; // refusals.rt: calls that are refused, with one fault and with two
 
@@ -19,16 +21,15 @@ fn check(
     letters: &[u8],
 ) {
     say(label);
-    match checker::check(
-        file,
+    let pair = LoopedPair {
         s,
         t,
         back_loop,
         lead_in,
         lead_out,
         forward_loop,
-        letters,
-    ) {
+    };
+    match checker::check(file, pair, letters) {
         checker::CheckResult::Refused(k) => {
             say(b": refused ");
             io::print_decimal(1, k as u64);

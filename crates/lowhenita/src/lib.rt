@@ -1,6 +1,6 @@
 // The calls for a host in C: the refusal's number or 0, and the results in a lent buffer. include/lowhenita.h describes them.
-ghost use Rattle.checker.specs.Check.{pairFrom};
 ghost use Rattle.values.specs.Window.{window};
+ghost use Rattle.values.specs.Pair.{pairOf, loopedPair};
 ghost use Rattle.lowhenita.specs.Host.{RunHosted, SearchHosted, DecodeHosted, CheckHosted, WindowHosted, TableHosted};
 
 // The bytes of the result buffer that each call wants.
@@ -88,31 +88,20 @@ pub extern "C" fn lowhenita_check(
     letters: &[u8],
     result: &mut [u8],
 ) -> usize
-    ensures { λ r. ⌜ CheckHosted (now (file .entry)) (pairFrom s t «back_loop» «lead_in» «lead_out» «forward_loop» (now (letters .entry))) (now (result .entry)) r (now (result .exit)) ⌝ }
+    ensures { λ r. ⌜ CheckHosted (now (file .entry)) (pairOf (loopedPair s t «back_loop» «lead_in» «lead_out» «forward_loop») (now (letters .entry))) (now (result .entry)) r (now (result .exit)) ⌝ }
 {
-    if result.len() < RESULT {
-        return checker::inner::refusal::check(
-            file,
-            s,
-            t,
-            back_loop,
-            lead_in,
-            lead_out,
-            forward_loop,
-            letters,
-            false,
-        );
-    }
-    let r = checker::check(
-        file,
+    let pair = values::LoopedPair {
         s,
         t,
         back_loop,
         lead_in,
         lead_out,
         forward_loop,
-        letters,
-    );
+    };
+    if result.len() < RESULT {
+        return checker::inner::refusal::check(file, pair, letters, false);
+    }
+    let r = checker::check(file, pair, letters);
     match r {
         checker::CheckResult::Refused(k) => k,
         checker::CheckResult::Checked(valid) => {

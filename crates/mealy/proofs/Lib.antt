@@ -8,6 +8,7 @@ pub mod Decisions
 pub mod Settling
 pub mod LeastWindows
 pub mod Walks
+pub mod PairParts
 pub mod LoopedPairs
 pub mod Answers
 pub mod Plain

@@ -7,7 +7,8 @@ use Rattle.mealy.specs.Machine.{Machine, end}
 use Rattle.mealy.specs.Setting.{Setting}
 use Rattle.mealy.specs.Product.{Edge}
 use Rattle.mealy.specs.LoopedPair.{LoopedPair, Run, first, second, letterAt, lettersFrom, mark, unlooped, letters, startOf, Valid}
-use Rattle.mealy.proofs.Walks.{Walk, walk-nil, walk-cons}
+use Rattle.mealy.specs.Walk.{Walk}
+use Rattle.mealy.proofs.Walks.{walk-nil, walk-cons}
 
 -- σ r k is the state of run r before place k; at each of the first n places from `place` on there is an edge
 abbrev pub Edges : Machine → LoopedPair → (Run → ℕ → ℕ) → ℕ → Type 0

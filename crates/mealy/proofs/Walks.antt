@@ -1,19 +1,16 @@
--- Walks of the product machine: two runs in step with equal outputs, with the states where they end.
-use mathlib.Core.Path.{_≡_, refl}
+-- Laws of walks of the product machine.
+use mathlib.Core.Path.{_≡_, refl, sym, _∙_}
 use mathlib.Core.List.{List, [], _∷_, _++_}
 use Prim.Native.Nat.{ℕ, zero, suc}
 use native.Mathlib.Omega.{arith}
 use lib.ListN.{length}
 use Rattle.mealy.specs.Machine.{Machine, end}
-use Rattle.mealy.specs.Window.{EqualOutputs}
+use Rattle.mealy.specs.Setting.{Setting, Closed}
 use Rattle.mealy.specs.Product.{Edge}
 use Rattle.mealy.specs.LoopedPair.{repeat}
+use Rattle.mealy.specs.Walk.{Walk}
+use Rattle.mealy.proofs.ComesBack.{end-start}
 use Rattle.mealy.proofs.Edges.{equal-nil, equal-cons, equal-edge, equal-tail}
-
-pub record Walk (M : Machine) (s t : ℕ) (xs ys : List ℕ) (u v : ℕ) : Type 0 where
-  pub equal : EqualOutputs M (length xs) s t xs ys
-  pub end₁ : end M s xs ≡ u
-  pub end₂ : end M t ys ≡ v
 
 pub walk-nil : {M : Machine} {s t : ℕ} → Walk M s t [] [] s t
 walk-nil = record { equal = equal-nil; end₁ = refl; end₂ = refl }
@@ -25,6 +22,19 @@ walk-cons e w = record { equal = equal-cons e (w .equal); end₁ = cc (e .to₁,
 
 pub walk-tail : {M : Machine} {s t i j u v : ℕ} {xs ys : List ℕ} → Walk M s t (i ∷ xs) (j ∷ ys) u v → Walk M (M .next s i) (M .next t j) xs ys u v
 walk-tail w = record { equal = equal-tail (w .equal); end₁ = w .end₁; end₂ = w .end₂ }
+
+-- the letters decide where a walk ends
+pub walk-ends : {M : Machine} {s t u v u′ v′ : ℕ} {xs ys : List ℕ} → Walk M s t xs ys u v → Walk M s t xs ys u′ v′ → (u ≡ u′) × (v ≡ v′)
+walk-ends a b = (sym (a .end₁) ∙ b .end₁, sym (a .end₂) ∙ b .end₂)
+
+-- a walk leads from start states to start states
+pub walk-start :
+    (S : Setting) → Closed S → {s t u v : ℕ} {xs ys : List ℕ} → S .Start s → S .Start t → Walk (S .M) s t xs ys u v →
+    S .Start u × S .Start v
+walk-start S closed {s} {t} {xs = xs} {ys = ys} p q w = (
+  rw (w .end₁) at (end-start S closed s xs p (w .equal .letters₁)),
+  rw (w .end₂) at (end-start S closed t ys q (w .equal .letters₂)),
+)
 
 -- ---- one after the other, and again and again
 

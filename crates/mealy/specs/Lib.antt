@@ -1,4 +1,4 @@
--- What the contracts cite: machines, runs, windows, the decoder's answer, the product machine, looped pairs.
+-- What the contracts cite: machines, runs, windows, the decoder's answer, the product machine, looped pairs, walks.
 pub mod Machine
 pub mod Word
 pub mod Setting
@@ -7,3 +7,4 @@ pub mod Order
 pub mod Answer
 pub mod Product
 pub mod LoopedPair
+pub mod Walk

@@ -76,16 +76,15 @@ fn checked(file: &[u8], p: loops::LoopedPair, bytes: &[u8]) -> bool {
     let n = bytes_of(p);
     if n <= bytes.len() {
         let letters = &bytes[..n];
-        let r = checker::check(
-            file,
-            p.s,
-            p.t,
-            p.back_loop,
-            p.lead_in,
-            p.lead_out,
-            p.forward_loop,
-            letters,
-        );
+        let pair = values::LoopedPair {
+            s: p.s,
+            t: p.t,
+            back_loop: p.back_loop,
+            lead_in: p.lead_in,
+            lead_out: p.lead_out,
+            forward_loop: p.forward_loop,
+        };
+        let r = checker::check(file, pair, letters);
         match r {
             checker::CheckResult::Refused(_) => false,
             checker::CheckResult::Checked(b) => b,

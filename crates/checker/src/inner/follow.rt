@@ -1,17 +1,19 @@
 // The two runs of a pair, in step, on the tables.
-ghost use mathlib.Core.Path.{_≡_};
-ghost use Prim.Native.Nat.{ℕ, _+_, _*_, _≤_, _<_};
-ghost use lib.ListN.{length};
-ghost use Rattle.mealy.specs.Machine.{Letters};
-ghost use Rattle.mealy.specs.Setting.{anyState};
-ghost use Rattle.mealy.specs.LoopedPair.{letters as lettersOf, Valid};
-ghost use Rattle.coder.specs.Table.{machineIn};
-ghost use Rattle.checker.specs.Check.{pairFrom};
+ghost use Prim.Native.Nat.{_<_};
+ghost use lib.ListN.{getD};
+ghost use Rattle.mealy.specs.Word.{Has};
+ghost use Rattle.mealy.specs.LoopedPair.{LoopedPair as Pair};
+ghost use Rattle.mealy.specs.Walk.{Loop};
+ghost use Rattle.coder.specs.Limits.{maxInputs};
 ghost use Rattle.coder.specs.Refusal.{Judges};
-ghost use Rattle.checker.specs.Follow.{Followable, Follows, Closes};
+ghost use Rattle.coder.specs.Table.{machineOfCoder};
+ghost use Rattle.coder.specs.declared.inner.tables.Coder.{Coder};
+ghost use Rattle.values.specs.Pair.{pairOf};
+ghost use Rattle.checker.specs.Follow.{TablesOf, FollowAsked, Follows, CheckAsked, JudgesParts, JudgesValid};
 use coder::inner::bytes::byte;
-use coder::inner::letters::conflict;
 use coder::inner::tables::entry;
+use setting::inner::has;
+use values::LoopedPair;
 
 // Whether outputs were equal throughout, and where both runs ended if they were.
 pub struct Followed {
@@ -30,8 +32,8 @@ fn follow<'a>(
     place: usize,
     n: usize,
 ) -> Followed
-    requires { ⌜ Followable (now next) s t (now letters) × (2 * (place + n) ≤ length (now letters)) ⌝ }
-    ensures { λ r. ⌜ Follows (machineIn 16 16 (now (next .entry)) (now (output .entry))) (pairFrom s t 0 0 0 0 (now (letters .entry))) s t place n r ⌝ }
+    requires { ⌜ FollowAsked (now next) (now output) (now letters) s t place n ⌝ }
+    ensures { λ r. ⌜ ((c : Coder) (p : Pair) → TablesOf c p (now (next .entry)) (now (output .entry)) (now (letters .entry)) → Follows (machineOfCoder c) p s t place n r) ⌝ }
 {
     let mut u = s;
     let mut v = t;
@@ -60,8 +62,8 @@ fn closes<'a>(
     place: usize,
     n: usize,
 ) -> bool
-    requires { ⌜ Followable (now next) s t (now letters) × (2 * (place + n) ≤ length (now letters)) ⌝ }
-    ensures { λ r. ⌜ Judges (Closes (machineIn 16 16 (now (next .entry)) (now (output .entry))) (pairFrom s t 0 0 0 0 (now (letters .entry))) s t place n) r ⌝ }
+    requires { ⌜ FollowAsked (now next) (now output) (now letters) s t place n ⌝ }
+    ensures { λ r. ⌜ ((c : Coder) (p : Pair) → TablesOf c p (now (next .entry)) (now (output .entry)) (now (letters .entry)) → Judges (Loop (machineOfCoder c) p place n s t) r) ⌝ }
 {
     if n == 0 {
         return false;
@@ -75,45 +77,70 @@ fn closes<'a>(
     false
 }
 
-// Whether a pair is valid.
-pub fn valid<'a>(
-    next: &'a [u8; 256],
-    output: &'a [u8; 256],
-    s: usize,
-    t: usize,
-    back_loop: usize,
-    lead_in: usize,
-    lead_out: usize,
-    forward_loop: usize,
-    letters: &[u8],
-) -> bool
-    requires { ⌜ Followable (now next) s t (now letters) × (length (now letters) ≡ 2 * lettersOf (pairFrom s t «back_loop» «lead_in» «lead_out» «forward_loop» (now letters))) ⌝ }
-    ensures { λ r. ⌜ ((states inputs : ℕ) → s < states → t < states → states ≤ 16 → Letters inputs (now (letters .entry)) → Judges (Valid (anyState (machineIn states inputs (now (next .entry)) (now (output .entry)))) (pairFrom s t «back_loop» «lead_in» «lead_out» «forward_loop» (now (letters .entry)))) r) ⌝ }
+// Whether the back loop closes, the letters between the loops have equal outputs, and the forward loop closes.
+fn parts<'a>(next: &'a [u8; 256], output: &'a [u8; 256], pair: LoopedPair, letters: &[u8]) -> bool
+    requires { ⌜ CheckAsked (now next) (now output) (pairOf pair (now letters)) ⌝ }
+    ensures { λ r. ⌜ JudgesParts (now (next .entry)) (now (output .entry)) (pairOf pair (now (letters .entry))) r ⌝ }
 {
-    let mark = back_loop + lead_in;
-    if conflict(byte(letters, 2 * mark), byte(letters, 2 * mark + 1)) {
-        if closes(next, output, letters, s, t, 0, back_loop) {
-            let r = follow(
+    let back_loop = pair.back_loop;
+    let lead_in = pair.lead_in;
+    let lead_out = pair.lead_out;
+    if closes(next, output, letters, pair.s, pair.t, 0, back_loop) {
+        let r = follow(
+            next,
+            output,
+            letters,
+            pair.s,
+            pair.t,
+            back_loop,
+            lead_in + 1 + lead_out,
+        );
+        let u = r.u;
+        let v = r.v;
+        if r.ok {
+            return closes(
                 next,
                 output,
                 letters,
-                s,
-                t,
-                back_loop,
-                lead_in + 1 + lead_out,
+                u,
+                v,
+                back_loop + lead_in + 1 + lead_out,
+                pair.forward_loop,
             );
-            let u = r.u;
-            let v = r.v;
-            if r.ok {
-                return closes(
-                    next,
-                    output,
-                    letters,
-                    u,
-                    v,
-                    mark + 1 + lead_out,
-                    forward_loop,
-                );
+        }
+    }
+    false
+}
+
+// Whether two input letters conflict.
+fn conflict(conflicts: &[u16; 16], i: usize, j: usize) -> bool
+    requires { ⌜ (i < maxInputs) × (j < maxInputs) ⌝ }
+    ensures { λ r. ⌜ Judges (Has (getD (now (conflicts .entry)) i 0) j) r ⌝ }
+{
+    has(conflicts[i], j)
+}
+
+// Whether a pair is valid, with start states and conflicts as words.
+pub fn valid<'a>(
+    next: &'a [u8; 256],
+    output: &'a [u8; 256],
+    starts: u16,
+    conflicts: &'a [u16; 16],
+    pair: LoopedPair,
+    letters: &[u8],
+) -> bool
+    requires { ⌜ CheckAsked (now next) (now output) (pairOf pair (now letters)) ⌝ }
+    ensures { λ r. ⌜ JudgesValid (now (next .entry)) (now (output .entry)) starts (now (conflicts .entry)) (pairOf pair (now (letters .entry))) r ⌝ }
+{
+    let mark = pair.back_loop + pair.lead_in;
+    if has(starts, pair.s) {
+        if has(starts, pair.t) {
+            if conflict(
+                conflicts,
+                byte(letters, 2 * mark),
+                byte(letters, 2 * mark + 1),
+            ) {
+                return parts(next, output, pair, letters);
             }
         }
     }

@@ -1,81 +1,86 @@
 -- `follow` meets its contract. After k letters the runs have come to u and v, with equal outputs so far.
-use mathlib.Core.Path.{_≡_, sym, _∙_}
-use Prim.Native.Nat.{_+_, _-_, _<_}
+use Prim.Native.Nat.{_+_, _*_, _-_, _<_}
 use native.Mathlib.Omega.{arith}
 use denote.Ref.{now}
-use Rattle.mealy.specs.LoopedPair.{first, second, letterAt}
-use Rattle.coder.specs.Table.{machineIn}
-use Rattle.coder.proofs.Refusals.{letter-at}
-use Rattle.checker.specs.Check.{pairFrom}
-use Rattle.checker.proofs.Following.{letter-first, Passed, passed-none, passed-more, passed-not, passed-all}
+use Rattle.mealy.specs.LoopedPair.{LoopedPair}
+use Rattle.mealy.proofs.SameSettings.{letter-below}
+use Rattle.coder.specs.Limits.{maxStates, maxInputs}
+use Rattle.coder.specs.Table.{machineOfCoder}
+use Rattle.coder.specs.declared.inner.tables.Coder.{Coder}
+use Rattle.checker.specs.Follow.{TablesOf}
+use Rattle.checker.proofs.Following.{next-low, equal-bytes, table-edge, Passed, passed-none, passed-more, passed-not, passed-all}
 use Rattle.checker.proofs.inner.follow.follow.Statement.{statement}
 use Rattle.checker.proofs.inner.follow.follow.Tie as tie
 
 abbrev Inv-loop : tie.InvT-loop
 Inv-loop next output letters s t place n u₀ v₀ k₀ u v k =
-    (u < 16) × (v < 16) × Passed (machineIn 16 16 next output) (pairFrom s t 0 0 0 0 letters) s t place n u v k
+    (u < maxStates) × (v < maxStates) ×
+    ((c : Coder) (p : LoopedPair) → TablesOf c p next output letters → Passed (machineOfCoder c) p s t place n u v k)
 
 abbrev μ-loop : tie.MeasureT-loop
 μ-loop next output letters s t place n u₀ v₀ k₀ u v k = n - k
 
 loop-holds : tie.Need-loop-holds Inv-loop μ-loop
-loop-holds c = (c .before .pre .0 .first, c .before .pre .0 .second, passed-none _ _ _ _ _ _)
+loop-holds c =
+    let a = c .before .pre in
+    let h = a .tables .sound .states-high in
+    (omega (arith, a .first), omega (arith, a .second), λ d p w. passed-none _ _ _ _ _ _)
 
 add-at : tie.Need-add-at Inv-loop μ-loop
-add-at c = omega arith
+add-at c = omega (arith, c .before .before .before .pre .within)
 
 mul-at : tie.Need-mul-at Inv-loop μ-loop
-mul-at c = omega arith
+mul-at c = omega (arith, c .before .before .before .pre .within)
 
 byte-requires : tie.Need-byte-requires Inv-loop μ-loop
-byte-requires c κs = omega arith
+byte-requires c κs = omega (arith, c .before .before .before .pre .within)
 
 add-byte : tie.Need-add-byte Inv-loop μ-loop
-add-byte c = omega arith
+add-byte c = omega (arith, c .before .before .before .before .pre .within)
 
 byte-requires-2 : tie.Need-byte-requires-2 Inv-loop μ-loop
-byte-requires-2 c κs = omega arith
+byte-requires-2 c κs = omega (arith, c .before .before .before .before .pre .within)
 
--- the two letters of the place: they are those of the pair, and below 16
-first-letter : (c : tie.After-byte Inv-loop μ-loop) → c .byte .result < 16
+-- the two letters of the place
+first-letter : (c : tie.After-byte Inv-loop μ-loop) → c .byte .result < maxInputs
 first-letter c =
     let a = c .before .before .before .before in
-    rw (c .byte .ensures .0) (letter-at 16 (now (a .args .letters)) (a .pre .0 .letters) _ (omega arith))
+    let h = a .pre .tables in
+    let k = a .args .place + c .before .before .loop .k in
+    let l = letter-below (a .pre .c .inputs) (now (a .args .letters)) (2 * k) (h .below) (omega (arith, a .pre .within)) in
+    omega (arith, c .byte .ensures .0, h .sound .inputs-high)
 
-second-letter : (c : tie.After-byte2 Inv-loop μ-loop) → c .byte2 .result < 16
+second-letter : (c : tie.After-byte2 Inv-loop μ-loop) → c .byte2 .result < maxInputs
 second-letter c =
     let a = c .before .before .before .before .before in
-    rw (c .byte2 .ensures .0) (letter-at 16 (now (a .args .letters)) (a .pre .0 .letters) _ (omega arith))
-
-first-is :
-    (c : tie.After-byte Inv-loop μ-loop) → let a = c .before .before .before .before .args in
-    c .byte .result ≡ letterAt (pairFrom (a .s) (a .t) 0 0 0 0 (now (a .letters))) first (a .place + c .before .before .loop .k)
-first-is c =
-    let a = c .before .before .before .before .args in
-    letter-first (pairFrom (a .s) (a .t) 0 0 0 0 (now (a .letters))) (a .place + c .before .before .loop .k) _ (c .byte .ensures .0)
-
-second-is :
-    (c : tie.After-byte2 Inv-loop μ-loop) → let a = c .before .before .before .before .before .args in
-    c .byte2 .result ≡ letterAt (pairFrom (a .s) (a .t) 0 0 0 0 (now (a .letters))) second (a .place + c .before .before .before .loop .k)
-second-is c = c .byte2 .ensures .0
+    let h = a .pre .tables in
+    let k = a .args .place + c .before .before .before .loop .k in
+    let l = letter-below (a .pre .c .inputs) (now (a .args .letters)) (2 * k + 1) (h .below) (omega (arith, a .pre .within)) in
+    omega (arith, c .byte2 .ensures .0, h .sound .inputs-high)
 
 entry-requires : tie.Need-entry-requires Inv-loop μ-loop
-entry-requires c κs = omega (arith, first-letter (c .before))
+entry-requires c κs = (c .before .before .before .loop .inv .0, first-letter (c .before))
 
 entry-requires-2 : tie.Need-entry-requires-2 Inv-loop μ-loop
-entry-requires-2 c κs = omega (arith, first-letter (c .before .before), second-letter (c .before))
+entry-requires-2 c κs = (c .before .before .before .before .loop .inv .1, second-letter (c .before))
 
 returns : tie.Need-returns Inv-loop μ-loop
 returns c =
-    let a = c .before .before .before .before .before in
-    passed-not (a .before .loop .inv .2) (a .loop-test .taken) (first-is (c .before .before .before .before)) (second-is (c .before .before .before))
-    (λ e. c .if1 .taken (cc (c .before .before .entry .ensures .0, c .before .entry2 .ensures .0)))
+    let a = c .before .before in
+    let i = a .before .before in
+    let l = i .before .before .loop in
+    λ d p w.
+    passed-not (l .inv .2 d p w) (i .before .loop-test .taken)
+    (λ e.
+    c .if1 .taken
+    (equal-bytes w (i .before .before .before .before .args .place + l .k) (l .u) (l .v) (i .byte .ensures .0) (a .before .byte2 .ensures .0) (a .entry .ensures .0)
+    (c .before .entry2 .ensures .0) e))
 
 entry-requires-3 : tie.Need-entry-requires-3 Inv-loop μ-loop
-entry-requires-3 c κs = omega (arith, first-letter (c .before .before .before .before))
+entry-requires-3 c κs = (c .before .before .before .before .before .before .loop .inv .0, first-letter (c .before .before .before .before))
 
 entry-requires-4 : tie.Need-entry-requires-4 Inv-loop μ-loop
-entry-requires-4 c κs = omega (arith, second-letter (c .before .before .before .before))
+entry-requires-4 c κs = (c .before .before .before .before .before .before .before .loop .inv .1, second-letter (c .before .before .before .before))
 
 add-k : tie.Need-add-k Inv-loop μ-loop
 add-k c = omega arith
@@ -85,18 +90,21 @@ loop-less c = omega arith
 
 loop-again : tie.Need-loop-again Inv-loop μ-loop
 loop-again c =
-    let a = c .before .before .before .before .before .before .before in
-    let next-state = a .before .before .before .pre .0 .next-state in (
-      rw (c .before .entry3 .ensures .0) (next-state _ _),
-      rw (c .entry4 .ensures .0) (next-state _ _),
-      passed-more (a .before .loop .inv .2) (a .loop-test .taken) (first-is (c .before .before .before .before .before .before))
-          (second-is (c .before .before .before .before .before))
-          (sym (c .before .before .before .before .entry .ensures .0) ∙ c .before .before .if1 .left ∙ c .before .before .before .entry2 .ensures .0)
-          (c .before .entry3 .ensures .0) (c .entry4 .ensures .0),
+    let a = c .before .before .before .before in
+    let i = a .before .before in
+    let l = i .before .before .loop in
+    let f = i .before .before .before .before in (
+      rw (c .before .entry3 .ensures .0) (next-low (f .pre) _ _),
+      rw (c .entry4 .ensures .0) (next-low (f .pre) _ _),
+      λ d p w.
+          passed-more (l .inv .2 d p w) (i .before .loop-test .taken)
+          (table-edge w (f .args .place + l .k) (l .u) (l .v) (i .byte .ensures .0) (a .before .byte2 .ensures .0) (a .entry .ensures .0)
+          (c .before .before .before .entry2 .ensures .0) (omega (arith, f .pre .within)) (c .before .before .if1 .left) (c .before .entry3 .ensures .0)
+          (c .entry4 .ensures .0)),
     )
 
 returns-2 : tie.Need-returns-2 Inv-loop μ-loop
-returns-2 c = passed-all (c .before .loop .inv .2) (omega arith)
+returns-2 c = λ d p w. passed-all (c .before .loop .inv .2 d p w) (omega arith)
 
 pub follow-spec : {M : Type 1} → statement M
 follow-spec =

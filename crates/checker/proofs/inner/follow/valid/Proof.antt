@@ -1,147 +1,113 @@
--- `valid` meets its contract: the conflict, the back loop, the middle and the forward loop are judged in order.
-use mathlib.Core.Path.{refl}
-use mathlib.Core.Logic.{_≢_}
-use Prim.Native.Nat.{ℕ, _+_}
+-- `valid` meets its contract: the start states, the conflict and the parts are judged in order.
 use native.Mathlib.Omega.{arith}
+use lib.ListN.{getD}
 use borrow.Author.Needs.{needs}
 use denote.Ref.{now}
-use Rattle.mealy.specs.Machine.{Machine}
-use Rattle.mealy.specs.Setting.{anyState}
-use Rattle.mealy.specs.LoopedPair.{LoopedPair, first, second, letterAt, mark, unlooped}
-use Rattle.coder.specs.Table.{machineIn}
-use Rattle.checker.specs.Check.{pairFrom}
+use Rattle.mealy.specs.Word.{Has}
+use Rattle.mealy.specs.Setting.{Setting, worded}
+use Rattle.mealy.specs.LoopedPair.{LoopedPair, first, second, letterAt, mark}
+use Rattle.mealy.proofs.PairParts.{valid→parts, parts→valid}
 use Rattle.coder.specs.Refusal.{Judges}
-use Rattle.checker.specs.Follow.{Follows, Closes}
+use Rattle.coder.specs.Table.{machineOfCoder}
+use Rattle.coder.specs.declared.inner.tables.Coder.{Coder}
+use Rattle.values.specs.Pair.{pairOf}
+use Rattle.checker.proofs.Judging.{judges-map, judges-not}
+use Rattle.checker.proofs.PartsJudged.{mark-low}
 use Rattle.checker.proofs.Following.{letter-first}
-use Rattle.checker.proofs.Judging.{judges-not}
-use Rattle.checker.proofs.Parts.{closes-judged, follows-same, followed-below, valid-parts, forward-judges}
 use Rattle.checker.proofs.inner.follow.valid.Statement.{statement}
 use Rattle.checker.proofs.inner.follow.valid.Tie as tie
 
 add-mark : tie.Need-add-mark
-add-mark c = omega arith
+add-mark c = search needs
+
+has-requires : tie.Need-has-requires
+has-requires c κs = search needs
+
+has-requires-2 : tie.Need-has-requires-2
+has-requires-2 c κs = search needs
 
 mul-byte : tie.Need-mul-byte
-mul-byte c = omega arith
+mul-byte c = search needs
 
 byte-requires : tie.Need-byte-requires
-byte-requires c κs = omega arith
+byte-requires c κs = search needs
 
 mul-byte-2 : tie.Need-mul-byte-2
-mul-byte-2 c = omega arith
+mul-byte-2 c = search needs
 
 add-byte : tie.Need-add-byte
-add-byte c = omega arith
+add-byte c = search needs
 
 byte-requires-2 : tie.Need-byte-requires-2
-byte-requires-2 c κs = omega arith
+byte-requires-2 c κs = search needs
 
 conflict-requires : tie.Need-conflict-requires
-conflict-requires c κs = search needs
+conflict-requires c κs =
+    let a = c .before .before .before .before .before .before .before .before .pre in
+    (rw (c .before .byte .ensures .0) (mark-low a _ (omega arith)), rw (c .byte2 .ensures .0) (mark-low a _ (omega arith)))
 
-closes-requires : tie.Need-closes-requires
-closes-requires c κs = (c .before .before .before .before .before .pre .0, omega arith)
+parts-requires : tie.Need-parts-requires
+parts-requires c κs = search needs
 
-add-follow : tie.Need-add-follow
-add-follow c = omega arith
-
-add-follow-2 : tie.Need-add-follow-2
-add-follow-2 c = omega arith
-
-follow-requires : tie.Need-follow-requires
-follow-requires c κs = (c .before .before .before .before .before .before .before .pre .0, omega arith)
-
-add-closes : tie.Need-add-closes
-add-closes c = omega arith
-
-add-closes-2 : tie.Need-add-closes-2
-add-closes-2 c = omega arith
-
-closes-requires-2 : tie.Need-closes-requires-2
-closes-requires-2 c κs =
-    let pre = c .before .before .before .before .before .before .before .before .before .pre .0 in
-    let l = followed-below (pre .next-state) (pre .first) (pre .second) (c .before .follow .ensures) (c .if3 .taken) in
-    (record { next-state = pre .next-state; first = omega arith; second = omega arith; letters = pre .letters }, omega arith)
-
--- the pair, and the machine in the tables with n states and i input letters
 abbrev pair : tie.Start → LoopedPair
-pair c =
-    let a = c .args in
-    pairFrom (a .s) (a .t) (a .back-loop) (a .lead-in) (a .lead-out) (a .forward-loop) (now (a .letters))
+pair c = pairOf (c .args .pair) (now (c .args .letters))
 
-abbrev machine : tie.Start → ℕ → ℕ → Machine
-machine c n i = machineIn n i (now (c .args .next)) (now (c .args .output))
+abbrev setting : tie.Start → Coder → Setting
+setting c d = worded (machineOfCoder d) (c .args .starts) (now (c .args .conflicts))
 
--- what the calls judge, said of the pair
 conflict-judged :
     (c : tie.After-conflict) →
-    let p = pair (c .before .before .before .before) in
-    Judges (letterAt p first (mark p) ≢ letterAt p second (mark p)) (c .conflict .result)
+    let a = c .before .before .before .before .before .before .before .before .before in
+    let p = pair a in
+    Judges (Has (getD (now (a .args .conflicts)) (letterAt p first (mark p)) 0) (letterAt p second (mark p))) (c .conflict .result)
 conflict-judged c =
-    let p = pair (c .before .before .before .before) in
+    let p = pair (c .before .before .before .before .before .before .before .before .before) in
     let e = letter-first p (mark p) _ (c .before .before .byte .ensures .0) in
     rw (e, c .before .byte2 .ensures .0) at (c .conflict .ensures)
 
-back-judged :
-    (c : tie.After-closes) (n i : ℕ) →
-    let a = c .before .before .before .before .before .before in
-    let p = pair a in
-    Judges (Closes (machine a n i) p (p .s) (p .t) 0 (p .back-loop)) (c .closes .result)
-back-judged c n i = closes-judged _ _ refl refl _ _ refl (c .closes .ensures)
-
-middle-followed :
-    (c : tie.After-follow) (n i : ℕ) →
-    let a = c .before .before .before .before .before .before .before .before in
-    let p = pair a in
-    Follows (machine a n i) p (p .s) (p .t) (p .back-loop) (p .lead-in + 1 + p .lead-out) (c .follow .result)
-middle-followed c n i = follows-same _ _ refl refl _ _ refl (c .follow .ensures)
-
-forward-judged :
-    (c : tie.After-closes2) (n i : ℕ) →
-    let a = c .before .before .before .before .before .before .before .before .before .before in
-    let p = pair a in
-    let w = c .before .before .follow .result in
-    Judges (Closes (machine a n i) p (w .u) (w .v) (unlooped p) (p .forward-loop)) (c .closes2 .result)
-forward-judged c n i = closes-judged _ _ refl refl _ _ refl (c .closes2 .ensures)
-
 returns : tie.Need-returns
-returns c = λ n i ls lt l h.
-    let a = c .before .before .before .before .before .before .before .before .before .before in
-    forward-judges {S = anyState (machine a n i)} {p = pair a} (omega arith)
-    (λ r. elim r [ first ↦ ls | second ↦ lt ]) h
-    (conflict-judged (c .before .before .before .before .before .before) .yes′ (c .before .before .before .before .before .if1 .taken))
-    (back-judged (c .before .before .before .before) n i .yes′ (c .before .before .before .if2 .taken))
-    (middle-followed (c .before .before) n i)
-    (c .before .if3 .taken)
-    (forward-judged c n i)
+returns c =
+    let k = c .before .before in
+    let f = k .before .before .before .before in
+    let a = f .before .before .before .before .before in
+    let p = pair a in
+    λ d w.
+    judges-map
+    (λ q. parts→valid (setting a d) p (record {
+      held = omega (arith, w .size);
+      start = λ r. elim r [
+        | first ↦ (w .first, f .before .before .has .ensures .yes′ (f .before .if1 .taken))
+        | second ↦ (w .second, f .has2 .ensures .yes′ (k .before .before .before .if2 .taken))
+      ];
+      conflict = conflict-judged k .yes′ (c .before .if3 .taken);
+      parts = q;
+    }))
+    (λ v. valid→parts (setting a d) p v .parts)
+    (c .parts .ensures d w)
 
 returns-2 : tie.Need-returns-2
-returns-2 c = λ n i ls lt l h. judges-not (λ v. middle-followed (c .before) n i .unequal (c .if3 .left) (valid-parts v .middle-equal))
+returns-2 c = λ d w. judges-not (λ v. conflict-judged (c .before) .no′ (c .if3 .left) (v .conflict))
 
 returns-3 : tie.Need-returns-3
-returns-3 c = λ n i ls lt l h. judges-not (λ v. back-judged (c .before) n i .no′ (c .if2 .left) (valid-parts v .back-closes))
+returns-3 c = λ d w. judges-not (λ v. c .before .has2 .ensures .no′ (c .if2 .left) (v .start second .1))
 
 returns-4 : tie.Need-returns-4
-returns-4 c = λ n i ls lt l h. judges-not (λ v. conflict-judged (c .before) .no′ (c .if1 .left) (v .conflict))
+returns-4 c = λ d w. judges-not (λ v. c .before .has .ensures .no′ (c .if1 .left) (v .start first .1))
 
 pub valid-spec : {M : Type 1} → statement M
 valid-spec =
     tie.close
     (tie.spec
     add-mark
+    has-requires
+    has-requires-2
     mul-byte
     byte-requires
     mul-byte-2
     add-byte
     byte-requires-2
     conflict-requires
-    closes-requires
-    add-follow
-    add-follow-2
-    follow-requires
-    add-closes
-    add-closes-2
-    closes-requires-2
+    parts-requires
     returns
     returns-2
     returns-3

@@ -1,17 +1,20 @@
 -- `refusal::check` meets its contract: the file's refusals, then 7, 9, 11 and 12 in order.
 use mathlib.Core.Bool.{not}
+use mathlib.Core.List.{[]}
 use mathlib.Core.Path.{_≡_}
-use Prim.Native.Nat.{_+_, _*_, _≤_}
+use Prim.Native.Nat.{_*_, _≤_}
 use native.Mathlib.Omega.{arith}
 use lib.ListN.{length}
 use lib.Dec.{eqb}
 use borrow.Author.Needs.{needs}
 use denote.Ref.{now}
+use Rattle.mealy.specs.LoopedPair.{letters}
 use Rattle.coder.specs.File.{fileRefusal, inputsOf}
 use Rattle.coder.specs.Refusal.{refuse, lettersBelow}
 use Rattle.coder.proofs.Refusals.{refused-first, tests, via}
 use Rattle.coder.proofs.Accepted.{accepted}
-use Rattle.checker.specs.Check.{pairFrom, checkRefusal}
+use Rattle.values.specs.Pair.{pairOf}
+use Rattle.checker.specs.Check.{checkRefusal}
 use Rattle.checker.proofs.inner.refusal.check.Statement.{statement}
 use Rattle.checker.proofs.inner.refusal.check.Tie as tie
 
@@ -30,40 +33,38 @@ byte-requires c κs = omega (arith, accepted _ (file-accepted c))
 
 returns-2 : tie.Need-returns-2
 unfolding checkRefusal
-returns-2 c = rw (file-accepted (c .before .before), ← (c .before .byte .ensures .0)) (search tests)
+returns-2 c = rw (file-accepted (c .before .before .before), ← (c .before .before .byte .ensures .0)) (search tests)
 
 returns-3 : tie.Need-returns-3
 unfolding checkRefusal
 returns-3 c =
-    let b = c .before .before in
-    let l : b .byte .result ≤ b .before .before .before .before .before .args .t = omega arith in
-    rw (file-accepted (c .before .before .before), ← (c .before .before .byte .ensures .0)) (search tests)
+    let l : c .before .before .before .before .byte .result ≤ c .before .before .before .before .before .before .before .before .before .args .pair .t = omega arith in
+    rw (file-accepted (c .before .before .before .before .before), ← (c .before .before .before .before .byte .ensures .0)) (search tests)
 
 -- once both start states are accepted
 by-bytes :
     (c : tie.Else3) →
-    let a = c .before .before .before .before .before .before .before .args in
+    let a = c .before .before .before .before .before .before .before .before .before .args in
     let xs = now (a .letters) in
-    checkRefusal (now (a .file)) (pairFrom (a .s) (a .t) (a .back-loop) (a .lead-in) (a .lead-out) (a .forward-loop) xs) (a .fits) ≡
-    refuse (not (eqb (length xs) (2 * (a .back-loop + a .lead-in + 1 + a .lead-out + a .forward-loop)))) 9
+    checkRefusal (now (a .file)) (pairOf (a .pair) xs) (a .fits) ≡
+    refuse (not (eqb (length xs) (2 * letters (pairOf (a .pair) [])))) 9
     (refuse (not (a .fits)) 11 (refuse (not (lettersBelow (inputsOf (now (a .file))) xs)) 12 0))
 unfolding checkRefusal
-by-bytes c = rw (file-accepted (c .before .before .before), ← (c .before .before .byte .ensures .0)) (search tests)
+by-bytes c = rw (file-accepted (c .before .before .before .before .before), ← (c .before .before .before .before .byte .ensures .0)) (search tests)
 
 twice-requires : tie.Need-twice-requires
 twice-requires c κs = search needs
 
 byte-requires-2 : tie.Need-byte-requires-2
-byte-requires-2 c κs = omega (arith, accepted _ (file-accepted (c .before .before .before .before .before .before)))
+byte-requires-2 c κs = omega (arith, accepted _ (file-accepted (c .before .before .before .before .before .before .before .before)))
 
 letters-below-requires : tie.Need-letters-below-requires
 letters-below-requires c κs = search needs
 
 by-letters :
     (c : tie.After-letters-below) →
-    let a = c .before .before .before .before .before .before .before .before .before .before .before .before .args in
-    checkRefusal (now (a .file)) (pairFrom (a .s) (a .t) (a .back-loop) (a .lead-in) (a .lead-out) (a .forward-loop) (now (a .letters))) (a .fits) ≡
-    refuse (not (c .letters-below .result)) 12 0
+    let a = c .before .before .before .before .before .before .before .before .before .before .before .before .before .before .args in
+    checkRefusal (now (a .file)) (pairOf (a .pair) (now (a .letters))) (a .fits) ≡ refuse (not (c .letters-below .result)) 12 0
 by-letters c =
     rw (
       by-bytes (c .before .before .before .before .before),

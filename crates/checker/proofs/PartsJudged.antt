@@ -1,0 +1,61 @@
+-- The parts of a pair as they are followed: what following them asks, and the pair judged by its last part.
+use mathlib.Core.Path.{_≡_, subst₂}
+use mathlib.Core.Bool.{Bool, true}
+use mathlib.Core.List.{List}
+use Prim.Native.Nat.{ℕ, _+_, _*_, _≤_, _<_}
+use native.Mathlib.Omega.{arith}
+use lib.ListN.{getD}
+use Rattle.mealy.specs.Machine.{Machine}
+use Rattle.mealy.specs.Setting.{anyState}
+use Rattle.mealy.specs.LoopedPair.{LoopedPair, mark, unlooped, letters}
+use Rattle.mealy.specs.Walk.{Loop, Parts}
+use Rattle.mealy.proofs.Walks.{walk-ends, walk-start}
+use Rattle.mealy.proofs.SameSettings.{letter-below}
+use Rattle.coder.specs.Limits.{maxInputs}
+use Rattle.coder.specs.Refusal.{Judges}
+use Rattle.coder.specs.Table.{machineOfCoder}
+use Rattle.checker.specs.Follow.{FollowAsked, Follows, CheckAsked}
+use Rattle.checker.specs.declared.inner.follow.Followed.{Followed}
+use Rattle.checker.proofs.Judging.{judges-map}
+
+module _ {next output : List ℕ} {p : LoopedPair} (a : CheckAsked next output p) where
+  pub follow-asked :
+      {s t : ℕ} (place n : ℕ) → s < a .c .states → t < a .c .states → place + n ≤ letters p →
+      FollowAsked next output (p .bytes) s t place n
+  follow-asked place n k m l = record {
+    c = a .c;
+    p = p;
+    tables = a .of .tables;
+    first = k;
+    second = m;
+    within = omega (arith, a .of .size);
+  }
+
+  -- from the pair's start states, and from the states to which its letters have led
+  pub start-asked : (place n : ℕ) → place + n ≤ letters p → FollowAsked next output (p .bytes) (p .s) (p .t) place n
+  start-asked place n l = follow-asked place n (a .of .first) (a .of .second) l
+
+  pub then-asked :
+      {place n : ℕ} {w : Followed} (place′ n′ : ℕ) → Follows (machineOfCoder (a .c)) p (p .s) (p .t) place n w → w .ok ≡ true →
+      place′ + n′ ≤ letters p → FollowAsked next output (p .bytes) (w .u) (w .v) place′ n′
+  then-asked place′ n′ f e l =
+      let h = a .of .tables .sound in
+      let z = walk-start (anyState (machineOfCoder (a .c))) (λ s i m k. h .next-state s i) (a .of .first) (a .of .second) (f .walk e) in
+      follow-asked place′ n′ (z .0) (z .1) l
+
+  -- the letters at the mark are input letters
+  pub mark-low : (k : ℕ) → k ≤ 2 * mark p + 1 → getD (p .bytes) k 0 < maxInputs
+  mark-low k l =
+      let h = a .of .tables in
+      omega (arith, h .sound .inputs-high, letter-below (a .c .inputs) (p .bytes) k (h .below) (omega (arith, a .of .size)))
+
+-- once the back loop closes and the letters between the loops have equal outputs, the forward loop decides
+pub parts-judged :
+    {M : Machine} {p : LoopedPair} {w : Followed} {answer : Bool} → Loop M p 0 (p .back-loop) (p .s) (p .t) →
+    Follows M p (p .s) (p .t) (p .back-loop) (p .lead-in + 1 + p .lead-out) w → w .ok ≡ true →
+    Judges (Loop M p (unlooped p) (p .forward-loop) (w .u) (w .v)) answer → Judges (Parts M p) answer
+parts-judged {M} {p} {w} b f e =
+    judges-map (λ l. record { u = w .u; v = w .v; back = b; between = f .walk e; forward = l })
+    (λ q.
+    let z = walk-ends (q .between) (f .walk e) in
+    subst₂ (λ u v. Loop M p (unlooped p) (p .forward-loop) u v) (z .0) (z .1) (q .forward))
