@@ -15,7 +15,7 @@ use Rattle.checker.specs.declared.CheckResult.the-variants.{Refused, Che
 use Rattle.checker.proofs.Judging.{judges-same, judges-decided}
 use Rattle.coder.proofs.Refusals.{upon-refused, upon-done}
 use Rattle.checker.proofs.Checking.{right}
-use Rattle.checker.proofs.Decisions.{dec-valid}
+use Rattle.mealy.proofs.PairDecisions.{dec-valid}
 
 module _ (f : List ℕ) (p : LoopedPair) where
   judged : {r : CheckResult} → (a : CheckedRight f p r) → Judges (Valid (settingOf f) p) (a .answer)

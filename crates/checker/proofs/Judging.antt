@@ -1,10 +1,9 @@
 -- Laws of results that say whether something holds.
 use mathlib.Core.Path.{_≡_, refl, sym, _∙_}
-use mathlib.Core.Bool.{Bool, true, false, not}
-use mathlib.Core.Logic.{_≢_}
+use mathlib.Core.Bool.{Bool, true, false}
 use Prim.Native.Nat.{ℕ}
 use lib.Dec.{eqb}
-use borrow.Author.Tests.{eq-eqb, ne-eqb, eqb-true, eqb-false, not-true, not-false}
+use borrow.Author.Tests.{eq-eqb, ne-eqb, eqb-true, eqb-false}
 use Rattle.coder.proofs.Refusals.{true-false}
 use Rattle.coder.specs.Refusal.{Judges}
 
@@ -20,9 +19,6 @@ judges-not f = record { yes′ = λ e. absurd (true-false e refl); no′ = λ e.
 -- the test of two numbers
 pub equal-judges : (i j : ℕ) → Judges (i ≡ j) (eqb i j)
 equal-judges i j = record { yes′ = eqb-true i j; no′ = eqb-false i j }
-
-pub unequal-judges : (i j : ℕ) → Judges (i ≢ j) (not (eqb i j))
-unequal-judges i j = record { yes′ = λ e. eqb-false i j (not-true _ e); no′ = λ e h. h (eqb-true i j (not-false _ e)) }
 
 -- two tests that hold together
 pub eqb-same : (a b n m : ℕ) → (a ≡ b → n ≡ m) → (n ≡ m → a ≡ b) → eqb a b ≡ eqb n m

@@ -3,6 +3,5 @@ pub mod Judging
 pub mod Following
 pub mod PartsJudged
 pub mod Checking
-pub mod Decisions
 pub mod Determined
 pub mod Examples

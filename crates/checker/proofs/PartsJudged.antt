@@ -31,17 +31,13 @@ module _ {next output : List ℕ} {p : LoopedPair} (a : CheckAsked next output p
     within = omega (arith, a .of .size);
   }
 
-  -- from the pair's start states, and from the states to which its letters have led
-  pub start-asked : (place n : ℕ) → place + n ≤ letters p → FollowAsked next output (p .bytes) (p .s) (p .t) place n
-  start-asked place n l = follow-asked place n (a .of .first) (a .of .second) l
-
-  pub then-asked :
-      {place n : ℕ} {w : Followed} (place′ n′ : ℕ) → Follows (machineOfCoder (a .c)) p (p .s) (p .t) place n w → w .ok ≡ true →
-      place′ + n′ ≤ letters p → FollowAsked next output (p .bytes) (w .u) (w .v) place′ n′
-  then-asked place′ n′ f e l =
+  -- the letters of the pair lead to states
+  pub followed-low :
+      {place n : ℕ} {w : Followed} → Follows (machineOfCoder (a .c)) p (p .s) (p .t) place n w → w .ok ≡ true →
+      (w .u < a .c .states) × (w .v < a .c .states)
+  followed-low f e =
       let h = a .of .tables .sound in
-      let z = walk-start (anyState (machineOfCoder (a .c))) (λ s i m k. h .next-state s i) (a .of .first) (a .of .second) (f .walk e) in
-      follow-asked place′ n′ (z .0) (z .1) l
+      walk-start (anyState (machineOfCoder (a .c))) (λ s i m k. h .next-state s i) (a .of .first) (a .of .second) (f .walk e)
 
   -- the letters at the mark are input letters
   pub mark-low : (k : ℕ) → k ≤ 2 * mark p + 1 → getD (p .bytes) k 0 < maxInputs

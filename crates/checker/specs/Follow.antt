@@ -21,7 +21,7 @@ pub record TablesOf (c : Coder) (p : LoopedPair) (next output bytes : List ℕ) 
   pub bytes-are : p .bytes ≡ bytes
   pub below : Letters (c .inputs) bytes
 
--- what following n letters from `place` on asks, from the states s and t
+-- what is asked to follow n letters from `place` on, from the states s and t
 pub record FollowAsked (next output bytes : List ℕ) (s t place n : ℕ) : Type 0 where
   pub c : Coder
   pub p : LoopedPair
@@ -30,7 +30,7 @@ pub record FollowAsked (next output bytes : List ℕ) (s t place n : ℕ) : Type
   pub second : t < c .states
   pub within : 2 * (place + n) ≤ length bytes
 
--- They have equal outputs throughout and lead to the two states told, or there is no such walk.
+-- These letters are a walk to the two states of r, or they are no walk at all.
 pub record Follows (M : Machine) (p : LoopedPair) (s t place n : ℕ) (r : Followed) : Type 0 where
   pub walk : r .ok ≡ true → Part M p place n s t (r .u) (r .v)
   pub none : r .ok ≡ false → (u v : ℕ) → Part M p place n s t u v → ⊥
@@ -46,8 +46,8 @@ pub record CheckAsked (next output : List ℕ) (p : LoopedPair) : Type 0 where
   pub c : Coder
   pub of : CheckOf c next output p
 
--- r says, for each coder of which the tables are, whether the pair's letters run as they should; and whether the pair is valid in the
--- setting of the words.
+-- r says, for each coder whose tables these are, whether the pair has its three parts, and whether it is valid in the setting of the
+-- words.
 abbrev pub JudgesParts : List ℕ → List ℕ → LoopedPair → Bool → Type 0
 JudgesParts next output p r = (c : Coder) → CheckOf c next output p → Judges (Parts (machineOfCoder c) p) r
 

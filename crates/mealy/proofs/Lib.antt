@@ -9,6 +9,8 @@ pub mod Settling
 pub mod LeastWindows
 pub mod Walks
 pub mod PairParts
+pub mod PairWalks
+pub mod PairDecisions
 pub mod LoopedPairs
 pub mod Answers
 pub mod Plain

@@ -61,8 +61,8 @@ pub record ValidParts (S : Setting) (p : LoopedPair) : Type 0 where
 module _ (S : Setting) (p : LoopedPair) where
   open Setting S using (M)
 
-  abbrev inner : ℕ
-  inner = p .lead-in + 1 + p .lead-out
+  abbrev betweenLetters : ℕ
+  betweenLetters = p .lead-in + 1 + p .lead-out
 
   pub valid→parts : Valid S p → ValidParts S p
   valid→parts v =
@@ -79,7 +79,7 @@ module _ (S : Setting) (p : LoopedPair) where
         end₂ = refl;
       } in
       let c = part-cut p (unlooped p) (p .forward-loop) (letters p) 0 (unlooped p) refl (omega arith) whole in
-      let d = part-cut p (p .back-loop) inner (unlooped p) 0 (p .back-loop) (omega arith) (omega arith) (c .0) in
+      let d = part-cut p (p .back-loop) betweenLetters (unlooped p) 0 (p .back-loop) (omega arith) (omega arith) (c .0) in
       record {
         held = v .held;
         start = v .start;
@@ -96,7 +96,8 @@ module _ (S : Setting) (p : LoopedPair) where
   pub parts→valid : ValidParts S p → Valid S p
   parts→valid h =
       let a = h .parts in
-      let before = part-append p (p .back-loop) inner (unlooped p) 0 (p .back-loop) (omega arith) (omega arith) (a .back .walk) (a .between) in
+      let before =
+      part-append p (p .back-loop) betweenLetters (unlooped p) 0 (p .back-loop) (omega arith) (omega arith) (a .back .walk) (a .between) in
       let whole = part-append p (unlooped p) (p .forward-loop) (letters p) 0 (unlooped p) refl (omega arith) before (a .forward .walk) in
       record {
         held = h .held;

@@ -62,7 +62,7 @@ entry-requires : tie.Need-entry-requires Inv-loop μ-loop
 entry-requires c κs = (c .before .before .before .loop .inv .0, first-letter (c .before))
 
 entry-requires-2 : tie.Need-entry-requires-2 Inv-loop μ-loop
-entry-requires-2 c κs = (c .before .before .before .before .loop .inv .1, second-letter (c .before))
+entry-requires-2 c κs = omega (arith, first-letter (c .before .before), second-letter (c .before))
 
 returns : tie.Need-returns Inv-loop μ-loop
 returns c =

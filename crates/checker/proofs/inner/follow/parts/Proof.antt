@@ -5,7 +5,7 @@ use denote.Ref.{now}
 use Rattle.mealy.specs.LoopedPair.{LoopedPair}
 use Rattle.values.specs.Pair.{pairOf}
 use Rattle.checker.proofs.Judging.{judges-not}
-use Rattle.checker.proofs.PartsJudged.{start-asked, then-asked, parts-judged}
+use Rattle.checker.proofs.PartsJudged.{follow-asked, followed-low, parts-judged}
 use Rattle.checker.proofs.inner.follow.parts.Statement.{statement}
 use Rattle.checker.proofs.inner.follow.parts.Tie as tie
 
@@ -13,7 +13,7 @@ abbrev pair : tie.Start → LoopedPair
 pair c = pairOf (c .args .pair) (now (c .args .letters))
 
 closes-requires : tie.Need-closes-requires
-closes-requires c κs = start-asked (c .before .pre) _ _ (omega arith)
+closes-requires c κs = let a = c .before .pre in follow-asked a _ _ (a .of .first) (a .of .second) (omega arith)
 
 add-follow : tie.Need-add-follow
 add-follow c = search needs
@@ -22,7 +22,7 @@ add-follow-2 : tie.Need-add-follow-2
 add-follow-2 c = search needs
 
 follow-requires : tie.Need-follow-requires
-follow-requires c κs = start-asked (c .before .before .before .pre) _ _ (omega arith)
+follow-requires c κs = let a = c .before .before .before .pre in follow-asked a _ _ (a .of .first) (a .of .second) (omega arith)
 
 add-closes : tie.Need-add-closes
 add-closes c = search needs
@@ -36,8 +36,9 @@ add-closes-3 c = search needs
 closes-requires-2 : tie.Need-closes-requires-2
 closes-requires-2 c κs =
     let f = c .before in
-    let a = f .before .before .before .before in
-    then-asked (a .pre) _ _ (f .follow .ensures (a .pre .c) (pair a) (a .pre .of .tables)) (c .if2 .taken) (omega arith)
+    let a = f .before .before .before .before .pre in
+    let z = followed-low a (f .follow .ensures (a .c) (pair (f .before .before .before .before)) (a .of .tables)) (c .if2 .taken) in
+    follow-asked a _ _ (omega (arith, a .of .first)) (omega (arith, a .of .second)) (omega arith)
 
 returns : tie.Need-returns
 returns c =

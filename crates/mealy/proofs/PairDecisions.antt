@@ -1,4 +1,4 @@
--- Whether a pair is valid can be decided.
+-- Whether a looped pair is valid can be decided.
 use mathlib.Core.Path.{_≡_, refl, sym, ap₂}
 use mathlib.Core.Logic.{Dec·and}
 use mathlib.Core.List.{List, [], _∷_}
