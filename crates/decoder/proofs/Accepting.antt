@@ -13,15 +13,14 @@ use Rattle.coder.specs.File.{fileRefusal, outputsOf}
 use Rattle.coder.proofs.Refusals.{both-true, refuse-not, first-none, letters-below}
 use Rattle.values.specs.Window.{size}
 use Rattle.values.specs.declared.Window.{Window}
-use Rattle.decoder.specs.Refusal.{sidesRefusal, windowRefusal, stringRefusal, maxTable, tableSize, tableRefusal}
+use Rattle.decoder.specs.Refusal.{sidesRefusal, SidesSmall, windowRefusal, stringRefusal, maxTable, tableSize, tableRefusal}
 use Rattle.decoder.specs.Places.{places, stringRefusalIn, StringAsked}
 use Rattle.decoder.specs.Table.{tableRefusalIn, TableAsked}
 
 -- the file and the two sides, which every call checks first
 pub record SidesAccepted (f : List ℕ) (w : Window) : Type 0 where
   pub file : fileRefusal f ≡ 0
-  pub before-high : w .before ≤ maxSide
-  pub after-high : w .after ≤ maxSide
+  pub small : SidesSmall w
 
 pub sides-accepted : (f : List ℕ) (w : Window) → sidesRefusal f w ≡ 0 → SidesAccepted f w
 unfolding sidesRefusal
@@ -30,7 +29,7 @@ sides-accepted f w e =
     let p = first-none (fileRefusal f) (refuse (not t) 8 0) e in
     let q = refuse-not t _ _ (lit< tt) (p .1) in
     let s = both-true (leb (w .before) maxSide) (leb (w .after) maxSide) (q .0) in
-    record { file = p .0; before-high = leb-true _ _ (s .0); after-high = leb-true _ _ (s .1) }
+    record { file = p .0; small = record { before-small = leb-true _ _ (s .0); after-small = leb-true _ _ (s .1) } }
 
 -- ---- one window
 

@@ -18,7 +18,8 @@ use Rattle.pass.proofs.Meaning.{right-byte-unique}
 use Rattle.coder.specs.File.{settingOf}
 use Rattle.values.specs.Window.{size}
 use Rattle.values.specs.declared.Window.{Window}
-use Rattle.decoder.specs.Places.{places, StringWritten, stringRefusalIn, StringPromise}
+use Rattle.decoder.specs.Written.{Written}
+use Rattle.decoder.specs.Places.{places, ByteAt, stringRefusalIn, StringPromise}
 use Rattle.decoder.specs.declared.CountResult.{CountResult}
 
 pub string-comes-back :
@@ -32,7 +33,7 @@ string-comes-back f w s xs before r after z works start letters accepted-call p 
     let b = w .before in
     let o = outs (machineOf f) s xs in
     let long : length o ≡ length xs = length-outs (machineOf f) s xs in
-    let written : StringWritten f w o before after = rw accepted-call at (p .bytes) in
+    let written : Written (ByteAt (settingOf f) o w) (places (length o) w) before after = rw accepted-call at (p .bytes) in
     right-byte-unique (settingOf f) (take (size w) (drop k o)) b (written .is k (omega arith))
     (record {
       answer = letter (getD xs (k + b) 0);

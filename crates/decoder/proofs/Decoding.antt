@@ -23,9 +23,10 @@ use Rattle.pass.proofs.Meaning.{decoded-right, all-flags, right-byte}
 use Rattle.coder.specs.File.{settingOf}
 use Rattle.values.specs.Window.{size}
 use Rattle.values.specs.declared.Window.{Window}
+use Rattle.decoder.specs.Written.{Written}
 use Rattle.decoder.specs.Refusal.{tableSize}
-use Rattle.decoder.specs.Places.{places, StringWritten, PlacesDecoded}
-use Rattle.decoder.specs.Table.{windowAt, TableWritten, TableFilled}
+use Rattle.decoder.specs.Places.{places, ByteAt, PlacesDecoded}
+use Rattle.decoder.specs.Table.{windowAt, EntryOf, TableFilled}
 use Rattle.decoder.proofs.Writing.{written-map}
 use Rattle.decoder.proofs.Indices.{length-window}
 
@@ -90,7 +91,7 @@ module _ {c : Coder} {f : List ℕ} (h : CoderOf c f) where
   -- a string
   pub places-right :
       (w : Window) (received : List ℕ) {n m : ℕ} {before after : List ℕ} → n ≡ size w → m ≡ places (length received) w →
-      PlacesDecoded c anyFlags received (w .before) n m before after → StringWritten f w received before after
+      PlacesDecoded c anyFlags received (w .before) n m before after → Written (ByteAt (settingOf f) received w) (places (length received) w) before after
   places-right w received {n} {m} en em d =
       rw (← em)
       (written-map {Q = λ k v. v ≡ byteOf (meaning (decoded c anyFlags (take n (drop k received)) (w .before)))}
@@ -104,7 +105,8 @@ module _ {c : Coder} {f : List ℕ} (h : CoderOf c f) where
   pub table-right :
       {o n count : ℕ} {v before ys : List ℕ} (w : Window) → o ≡ outputsOf f → n ≡ size w →
       count ≡ tableSize (outputsOf f) w → count ≤ length before → v ≡ startSets anyFlags →
-      TableFilled c o v n (w .before + 1) ys → TableWritten f w before (ys ++ drop count before)
+      TableFilled c o v n (w .before + 1) ys →
+      Written (EntryOf f w) (tableSize (outputsOf f) w) before (ys ++ drop count before)
   unfolding decoded
   table-right {o} {n} {count} {v} {before} {ys} w eo en ec room ev g =
       let long : length ys ≡ count = rw (eo, en, ← ec) at (g .size) in

@@ -9,20 +9,20 @@ use lib.ListN.{length, take, drop, length-drop}
 use lib.Seq.{length-take-le}
 use Rattle.mealy.specs.Answer.{byteOf}
 use Rattle.coder.specs.Refusal.{answer}
-use Rattle.coder.specs.File.{outputsOf}
+use Rattle.coder.specs.File.{fileRefusal, outputsOf, settingOf}
 use Rattle.coder.specs.Table.{coderOf}
-use Rattle.pass.specs.Answer.{meaning}
+use Rattle.pass.specs.Answer.{meaning, RightByte}
 use Rattle.pass.specs.Pass.{decoded}
 use Rattle.pass.proofs.Meaning.{right-unique, right-byte, right-byte-unique}
-use Rattle.coder.specs.File.{settingOf}
 use Rattle.coder.specs.Refusal.{upon}
 use Rattle.values.specs.Window.{size}
 use Rattle.values.specs.declared.Window.{Window}
 use Rattle.decoder.specs.Written.{Written}
-use Rattle.decoder.specs.Refusal.{windowRefusal, tableSize}
+use Rattle.decoder.specs.Count.{CountPromise}
+use Rattle.decoder.specs.Refusal.{windowRefusal}
 use Rattle.decoder.specs.Window.{AnsweredRight, WindowPromise}
-use Rattle.decoder.specs.Places.{places, ByteAt, stringRefusalIn, StringPromise}
-use Rattle.decoder.specs.Table.{windowAt, EntryAt, tableRefusalIn, TablePromise}
+use Rattle.decoder.specs.Places.{stringRefusalIn, StringPromise}
+use Rattle.decoder.specs.Table.{windowAt, tableRefusalIn, TablePromise}
 use Rattle.decoder.specs.declared.WindowResult.{WindowResult}
 use Rattle.decoder.specs.declared.WindowResult.the-variants.{Refused, Answered}
 use Rattle.decoder.specs.declared.CountResult as count
@@ -76,43 +76,55 @@ bytes-exist :
 bytes-exist Q n before g zero h = let p = h refl in (_, written-front g (p .0) (p .1))
 bytes-exist Q n before g (suc k) h = (before, refl)
 
+-- ---- calls that write a right byte for each of n parts
+
+module _ (f : List ℕ) (b : ℕ) (part : ℕ → List ℕ) (n k : ℕ) (before : List ℕ) where
+  abbrev ByteOf : ℕ → ℕ → Type 0
+  ByteOf j v = RightByte (settingOf f) (part j) b v
+
+  abbrev Promise : count.CountResult → List ℕ → Type 0
+  Promise r after = CountPromise k n ByteOf before r after
+
+  parts-determined :
+      (r r′ : count.CountResult) (after after′ : List ℕ) → Promise r after → Promise r′ after′ → (r ≡ r′) × (after ≡ after′)
+  parts-determined r r′ after after′ p q = (
+    p .result ∙ sym (q .result),
+    bytes-determined ByteOf n before after after′ k (λ j x y. right-byte-unique (settingOf f) (part j) b) (p .bytes) (q .bytes),
+  )
+
+  parts-exist :
+      (k ≡ 0 → (fileRefusal f ≡ 0) × (n ≤ length before) × ((j : ℕ) → j < n → b < length (part j))) →
+      (r : count.CountResult) × (after : List ℕ) × Promise r after
+  parts-exist h =
+      let e =
+      bytes-exist ByteOf n before (λ j. byteOf (meaning (decoded (coderOf f) anyFlags (part j) b))) k
+      (λ z.
+      let a = h z in (
+        a .1,
+        λ j l.
+            right-byte (settingOf f) (part j) b (decoded (coderOf f) anyFlags (part j) b) (file-right f (a .0) (part j) b (a .2 j l)),
+      )) in
+      (_, e .0, record { result = refl; bytes = e .1 })
+
 -- ---- a string
 
 module _ (f : List ℕ) (w : Window) (received before : List ℕ) where
   pub string-determined :
       (r r′ : count.CountResult) (after after′ : List ℕ) → StringPromise f w received before r after →
       StringPromise f w received before r′ after′ → (r ≡ r′) × (after ≡ after′)
-  string-determined r r′ after after′ p q = (
-    p .result ∙ sym (q .result),
-    bytes-determined (ByteAt (settingOf f) received w) (places (length received) w) before after after′
-        (stringRefusalIn f w received (length before) true)
-        (λ k x y. right-byte-unique (settingOf f) (take (size w) (drop k received)) (w .before)) (p .bytes) (q .bytes),
-  )
+  string-determined = parts-determined f (w .before) (λ j. take (size w) (drop j received)) _ _ before
 
   pub string-exists : (r : count.CountResult) × (after : List ℕ) × StringPromise f w received before r after
   string-exists =
-      let e =
-      bytes-exist (ByteAt (settingOf f) received w) (places (length received) w) before
-      (λ k. byteOf (meaning (decoded (coderOf f) anyFlags (take (size w) (drop k received)) (w .before))))
-      (stringRefusalIn f w received (length before) true) right in
-      (_, e .0, record { result = refl; bytes = e .1 })
-    where
-      right :
-          stringRefusalIn f w received (length before) true ≡ 0 →
-          (places (length received) w ≤ length before)
-          × ((k : ℕ) → k < places (length received) w →
-          ByteAt (settingOf f) received w k
-          (byteOf (meaning (decoded (coderOf f) anyFlags (take (size w) (drop k received)) (w .before)))))
-      right z =
-          let h = string-accepted f w received _ z in (
-            string-asked f w received before true z .room,
-            λ k l.
-                let part = take (size w) (drop k received) in
-                let long : length part ≡ size w =
-                length-take-le (size w) (drop k received) (simp length-drop (omega arith)) in
-                right-byte (settingOf f) part (w .before) (decoded (coderOf f) anyFlags part (w .before))
-                (file-right f (h .sides .file) part (w .before) (omega arith)),
-          )
+      parts-exist f (w .before) (λ j. take (size w) (drop j received)) _ (stringRefusalIn f w received (length before) true) before
+      (λ z. (
+        string-accepted f w received _ z .sides .file,
+        string-asked f w received before true z .room,
+        λ j l.
+            let long : length (take (size w) (drop j received)) ≡ size w =
+            length-take-le (size w) (drop j received) (simp length-drop (omega arith)) in
+            omega arith,
+      ))
 
 -- ---- a table
 
@@ -120,32 +132,13 @@ module _ (f : List ℕ) (w : Window) (before : List ℕ) where
   pub table-determined :
       (r r′ : count.CountResult) (after after′ : List ℕ) → TablePromise f w before r after →
       TablePromise f w before r′ after′ → (r ≡ r′) × (after ≡ after′)
-  table-determined r r′ after after′ p q = (
-    p .result ∙ sym (q .result),
-    bytes-determined (EntryAt (settingOf f) (outputsOf f) (size w) (w .before)) (tableSize (outputsOf f) w) before after after′
-        (tableRefusalIn f w (length before) true)
-        (λ k x y. right-byte-unique (settingOf f) (windowAt (outputsOf f) (size w) k) (w .before)) (p .bytes) (q .bytes),
-  )
+  table-determined = parts-determined f (w .before) (windowAt (outputsOf f) (size w)) _ _ before
 
   pub table-exists : (r : count.CountResult) × (after : List ℕ) × TablePromise f w before r after
   table-exists =
-      let e =
-      bytes-exist (EntryAt (settingOf f) (outputsOf f) (size w) (w .before)) (tableSize (outputsOf f) w) before
-      (λ k. byteOf (meaning (decoded (coderOf f) anyFlags (windowAt (outputsOf f) (size w) k) (w .before))))
-      (tableRefusalIn f w (length before) true) right in
-      (_, e .0, record { result = refl; bytes = e .1 })
-    where
-      right :
-          tableRefusalIn f w (length before) true ≡ 0 →
-          (tableSize (outputsOf f) w ≤ length before)
-          × ((k : ℕ) → k < tableSize (outputsOf f) w →
-          EntryAt (settingOf f) (outputsOf f) (size w) (w .before) k
-          (byteOf (meaning (decoded (coderOf f) anyFlags (windowAt (outputsOf f) (size w) k) (w .before)))))
-      right z =
-          let h = table-accepted f w _ z in (
-            table-asked f w before true z .room,
-            λ k l.
-                let part = windowAt (outputsOf f) (size w) k in
-                right-byte (settingOf f) part (w .before) (decoded (coderOf f) anyFlags part (w .before))
-                (file-right f (h .sides .file) part (w .before) (omega (arith, length-window (outputsOf f) (size w) k))),
-          )
+      parts-exist f (w .before) (windowAt (outputsOf f) (size w)) _ (tableRefusalIn f w (length before) true) before
+      (λ z. (
+        table-accepted f w _ z .sides .file,
+        table-asked f w before true z .room,
+        λ j l. omega (arith, length-window (outputsOf f) (size w) j),
+      ))

@@ -21,9 +21,10 @@ use Rattle.pass.proofs.Meaning.{right-byte}
 use Rattle.coder.specs.File.{settingOf}
 use Rattle.values.specs.Window.{window, size}
 use Rattle.values.specs.declared.Window.{Window}
+use Rattle.decoder.specs.Written.{Written}
 use Rattle.decoder.specs.Refusal.{sidesRefusal, windowRefusal, tableSize, tableRefusal}
 use Rattle.decoder.specs.Window.{WindowPromise}
-use Rattle.decoder.specs.Table.{windowAt, TableWritten, tableRefusalIn, TablePromise}
+use Rattle.decoder.specs.Table.{windowAt, EntryOf, tableRefusalIn, TablePromise}
 use Rattle.decoder.specs.declared.WindowResult.the-variants.{Refused, Answered}
 use Rattle.decoder.specs.declared.CountResult.the-variants.{Done}
 use Rattle.decoder.proofs.Accepting.{window-accepted, table-accepted, table-asked}
@@ -62,7 +63,7 @@ filled f w before bytes z e =
       result = rw z;
       bytes =
           rw z
-          (subst (λ l. TableWritten f w before (l ++ drop n before)) e
+          (subst (λ l. Written (EntryOf f w) n before (l ++ drop n before)) e
           (written-front (entryAt f w) (table-asked f w before true z .room)
           (λ k l.
           let part = windowAt (outputsOf f) (size w) k in

@@ -2,6 +2,7 @@
 pub mod Accepting
 pub mod Sizes
 pub mod Writing
+pub mod Counting
 pub mod Indices
 pub mod Filling
 pub mod Decoding

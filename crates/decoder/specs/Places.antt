@@ -9,7 +9,6 @@ use Rattle.mealy.specs.Machine.{Letters}
 use Rattle.mealy.specs.Setting.{Setting}
 use Rattle.mealy.specs.Answer.{byteOf}
 use Rattle.coder.specs.Limits.{maxStates, maxOutputs, maxSide}
-use Rattle.coder.specs.Refusal.{answer, upon}
 use Rattle.coder.specs.File.{settingOf}
 use Rattle.coder.specs.declared.inner.tables.Coder.{Coder}
 use Rattle.values.specs.Window.{size}
@@ -17,9 +16,9 @@ use Rattle.values.specs.declared.Window.{Window}
 use Rattle.pass.specs.Answer.{meaning, RightByte}
 use Rattle.pass.specs.Pass.{Arrays, decoded}
 use Rattle.decoder.specs.Written.{Written}
+use Rattle.decoder.specs.Count.{CountPromise, CountGiven}
 use Rattle.decoder.specs.Refusal.{stringRefusal}
 use Rattle.decoder.specs.declared.CountResult.{CountResult}
-use Rattle.decoder.specs.declared.CountResult.the-variants.{Refused, Done}
 
 -- How many places of n received letters have a full window: n − b − a, none where n is below b + 1 + a ("Decoding", the
 -- sentence on strings).
@@ -31,30 +30,25 @@ places n w = n - (w .before + w .after)
 abbrev pub ByteAt : Setting → List ℕ → Window → ℕ → ℕ → Type 0
 ByteAt S received w k v = RightByte S (take (size w) (drop k received)) (w .before) v
 
--- a right byte for each place with a full window, with the buffer's old bytes after them
-abbrev pub StringWritten : List ℕ → Window → List ℕ → List ℕ → List ℕ → Type 0
-StringWritten f w received before after = Written (ByteAt (settingOf f) received w) (places (length received) w) before after
-
 -- the refusal where the lent buffer for the letters has `room` bytes; `others` says whether the other lent buffers are long enough
 abbrev pub stringRefusalIn : List ℕ → Window → List ℕ → ℕ → Bool → ℕ
 stringRefusalIn f w received room others = stringRefusal f w received (leb (places (length received) w) room && others)
 
--- What the call returns and leaves in the lent buffer: the first refusal that applies and the buffer as it was, or the number of
--- bytes written, each right for its own part of the string, with the buffer's old bytes after them.
-pub record StringPromise (f : List ℕ) (w : Window) (received before : List ℕ) (r : CountResult) (after : List ℕ) : Type 0 where
-  pub result : r ≡ answer (stringRefusalIn f w received (length before) true) (λ k. Refused k) (Done (places (length received) w))
-  pub bytes :
-      upon (stringRefusalIn f w received (length before) true) (λ k. after ≡ before) (StringWritten f w received before after)
+-- The first refusal that applies, or a right byte for each place with a full window.
+abbrev pub StringPromise : List ℕ → Window → List ℕ → List ℕ → CountResult → List ℕ → Type 0
+StringPromise f w received before r after =
+    CountPromise (stringRefusalIn f w received (length before) true) (places (length received) w) (ByteAt (settingOf f) received w)
+    before r after
 
 -- what the checked part of the call asks: no refusal, and room for each byte
 pub record StringAsked (f : List ℕ) (w : Window) (received before : List ℕ) : Type 0 where
   pub accepted : stringRefusal f w received true ≡ 0
   pub room : places (length received) w ≤ length before
 
--- and what it gives: the number of bytes, and the bytes
-pub record StringGiven (f : List ℕ) (w : Window) (received before : List ℕ) (count : ℕ) (after : List ℕ) : Type 0 where
-  pub counted : count ≡ places (length received) w
-  pub bytes : StringWritten f w received before after
+-- and what it gives
+abbrev pub StringGiven : List ℕ → Window → List ℕ → List ℕ → ℕ → List ℕ → Type 0
+StringGiven f w received before count after =
+    CountGiven (places (length received) w) (ByteAt (settingOf f) received w) before count after
 
 -- what the loop over the places asks: m windows of n letters lie in the string, and m bytes in the buffer
 pub record PlacesAsked (next start entries : List ℕ) (states : ℕ) (received : List ℕ) (b n m : ℕ) (before : List ℕ) : Type 0 where

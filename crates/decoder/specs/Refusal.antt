@@ -1,5 +1,5 @@
 -- The refusals of the three calls, each in checking order.
-use Prim.Native.Nat.{ℕ, _^_}
+use Prim.Native.Nat.{ℕ, _^_, _≤_}
 use mathlib.Core.Bool.{Bool, not, _&&_}
 use mathlib.Core.List.{List}
 use lib.ListN.{length}
@@ -13,6 +13,11 @@ use Rattle.values.specs.declared.Window.{Window}
 -- 1 to 6 and 8: what every call with a window is refused for first.
 unfoldable pub sidesRefusal : List ℕ → Window → ℕ
 sidesRefusal f w = first (fileRefusal f) (refuse (not (leb (w .before) maxSide && leb (w .after) maxSide)) 8 0)
+
+-- Both sides are within the limit.
+pub record SidesSmall (w : Window) : Type 0 where
+  pub before-small : w .before ≤ maxSide
+  pub after-small : w .after ≤ maxSide
 
 -- One window: then 9 (the number of letters), 11 (some lent buffer is too short) and 13 (a received letter). Whether all lent buffers
 -- are long enough is an argument: a call of the library lends none for a single window, a call from C lends its result.

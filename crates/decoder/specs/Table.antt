@@ -8,17 +8,15 @@ use lib.Dec.{leb}
 use Rattle.mealy.specs.Setting.{Setting}
 use Rattle.mealy.specs.Answer.{byteOf}
 use Rattle.coder.specs.Limits.{maxStates, maxOutputs}
-use Rattle.coder.specs.Refusal.{answer, upon}
 use Rattle.coder.specs.File.{outputsOf, settingOf}
 use Rattle.coder.specs.declared.inner.tables.Coder.{Coder}
 use Rattle.values.specs.Window.{size}
 use Rattle.values.specs.declared.Window.{Window}
 use Rattle.pass.specs.Answer.{meaning, RightByte}
 use Rattle.pass.specs.Pass.{Arrays, pass, unionOf, answerOf}
-use Rattle.decoder.specs.Written.{Written}
+use Rattle.decoder.specs.Count.{CountPromise, CountGiven}
 use Rattle.decoder.specs.Refusal.{maxTable, tableSize, tableRefusal}
 use Rattle.decoder.specs.declared.CountResult.{CountResult}
-use Rattle.decoder.specs.declared.CountResult.the-variants.{Refused, Done}
 
 -- The index of a window and the window of an index, to base o: the first letter is the highest digit ("Decoding", last sentence).
 unfoldable pub indexOf : ℕ → List ℕ → ℕ
@@ -33,30 +31,27 @@ windowAt o (suc n) k = k / o ^ n ∷ windowAt o n (k % o ^ n)
 abbrev pub EntryAt : Setting → ℕ → ℕ → ℕ → ℕ → ℕ → Type 0
 EntryAt S o n b k v = RightByte S (windowAt o n k) b v
 
--- at each index of the window's table the right byte for that index's letters, with the buffer's old bytes after them
-abbrev pub TableWritten : List ℕ → Window → List ℕ → List ℕ → Type 0
-TableWritten f w before after =
-    Written (EntryAt (settingOf f) (outputsOf f) (size w) (w .before)) (tableSize (outputsOf f) w) before after
+-- and so for the table of a file and a window
+abbrev pub EntryOf : List ℕ → Window → ℕ → ℕ → Type 0
+EntryOf f w k v = EntryAt (settingOf f) (outputsOf f) (size w) (w .before) k v
 
 -- the refusal where the lent buffer for the table has `room` bytes; `others` says whether the other lent buffers are long enough
 abbrev pub tableRefusalIn : List ℕ → Window → ℕ → Bool → ℕ
 tableRefusalIn f w room others = tableRefusal f w (leb (tableSize (outputsOf f) w) room && others)
 
--- What the call returns and leaves in the lent buffer: the first refusal that applies and the buffer as it was, or the table's
--- size, and at each index the right byte for that index's letters, with the buffer's old bytes after them.
-pub record TablePromise (f : List ℕ) (w : Window) (before : List ℕ) (r : CountResult) (after : List ℕ) : Type 0 where
-  pub result : r ≡ answer (tableRefusalIn f w (length before) true) (λ k. Refused k) (Done (tableSize (outputsOf f) w))
-  pub bytes : upon (tableRefusalIn f w (length before) true) (λ k. after ≡ before) (TableWritten f w before after)
+-- The first refusal that applies, or a right byte at each index.
+abbrev pub TablePromise : List ℕ → Window → List ℕ → CountResult → List ℕ → Type 0
+TablePromise f w before r after =
+    CountPromise (tableRefusalIn f w (length before) true) (tableSize (outputsOf f) w) (EntryOf f w) before r after
 
 -- what the checked part of the call asks: no refusal, and room for each byte
 pub record TableAsked (f : List ℕ) (w : Window) (before : List ℕ) : Type 0 where
   pub accepted : tableRefusal f w true ≡ 0
   pub room : tableSize (outputsOf f) w ≤ length before
 
--- and what it gives: the table's size, and its bytes
-pub record TableGiven (f : List ℕ) (w : Window) (before : List ℕ) (count : ℕ) (after : List ℕ) : Type 0 where
-  pub counted : count ≡ tableSize (outputsOf f) w
-  pub bytes : TableWritten f w before after
+-- and what it gives
+abbrev pub TableGiven : List ℕ → Window → List ℕ → ℕ → List ℕ → Type 0
+TableGiven f w before count after = CountGiven (tableSize (outputsOf f) w) (EntryOf f w) before count after
 
 -- o to the power n, or 0 where that is more than a table may have
 abbrev pub sizeOf : ℕ → ℕ → ℕ

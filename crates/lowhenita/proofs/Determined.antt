@@ -17,7 +17,7 @@ use Rattle.pass.specs.Answer.{meaning}
 use Rattle.pass.proofs.Meaning.{right-unique, right-byte-unique}
 use Rattle.decoder.specs.Refusal.{tableSize}
 use Rattle.decoder.specs.Places.{places, ByteAt}
-use Rattle.decoder.specs.Table.{windowAt, EntryAt}
+use Rattle.decoder.specs.Table.{windowAt, EntryOf}
 use Rattle.decoder.proofs.Determined.{bytes-determined}
 use Rattle.loops.specs.declared.LoopedPair as loops
 use Rattle.search.specs.Search.{Says, PairReport}
@@ -97,7 +97,7 @@ pub table-determined :
     (r ≡ q) × (after ≡ after₂) × (result′ ≡ result₂)
 table-determined f w before result r q after after₂ result′ result₂ h k = (
   h .number ∙ sym (k .number),
-  bytes-determined (EntryAt (settingOf f) (outputsOf f) (size w) (w .before)) (tableSize (outputsOf f) w) before after after₂
+  bytes-determined (EntryOf f w) (tableSize (outputsOf f) w) before after after₂
       (tableNumber f w before result)
       (λ j x y. right-byte-unique (settingOf f) (windowAt (outputsOf f) (size w) j) (w .before)) (h .bytes) (k .bytes),
   h .fields ∙ sym (k .fields),

@@ -17,10 +17,11 @@ use Rattle.coder.specs.Run.{runRefusal}
 use Rattle.values.specs.declared.Window.{Window}
 use Rattle.pass.specs.Answer.{meaning}
 use Rattle.pass.specs.declared.Answer.{Answer}
+use Rattle.decoder.specs.Written.{Written}
 use Rattle.decoder.specs.Refusal.{windowRefusal, tableSize}
 use Rattle.decoder.specs.Window.{RightOf}
-use Rattle.decoder.specs.Places.{places, stringRefusalIn, StringWritten}
-use Rattle.decoder.specs.Table.{tableRefusalIn, TableWritten}
+use Rattle.decoder.specs.Places.{places, stringRefusalIn, ByteAt}
+use Rattle.decoder.specs.Table.{tableRefusalIn, EntryOf}
 use Rattle.search.specs.Search.{searchRefusal, wanted, Says}
 use Rattle.search.specs.declared.Verdict.{Verdict}
 use Rattle.checker.specs.Check.{checkRefusal}
@@ -79,7 +80,8 @@ decodeNumber f w received before result = stringRefusalIn f w received (length b
 pub record DecodeHosted (f : List ℕ) (w : Window) (received before result : List ℕ) (r : ℕ) (after result′ : List ℕ) : Type 0 where
   pub number : r ≡ decodeNumber f w received before result
   pub bytes :
-      upon (decodeNumber f w received before result) (λ k. after ≡ before) (StringWritten f w received before after)
+      upon (decodeNumber f w received before result) (λ k. after ≡ before)
+      (Written (ByteAt (settingOf f) received w) (places (length received) w) before after)
   pub fields :
       result′ ≡
       answer (decodeNumber f w received before result) (λ k. result) (withFields result (places (length received) w ∷ []))
@@ -125,6 +127,8 @@ tableNumber f w before result = tableRefusalIn f w (length before) (roomy result
 -- "Decoding", the sentences on the table, for a host: a right byte at each index; field 0 is the table's size.
 pub record TableHosted (f : List ℕ) (w : Window) (before result : List ℕ) (r : ℕ) (after result′ : List ℕ) : Type 0 where
   pub number : r ≡ tableNumber f w before result
-  pub bytes : upon (tableNumber f w before result) (λ k. after ≡ before) (TableWritten f w before after)
+  pub bytes :
+      upon (tableNumber f w before result) (λ k. after ≡ before)
+      (Written (EntryOf f w) (tableSize (outputsOf f) w) before after)
   pub fields :
       result′ ≡ answer (tableNumber f w before result) (λ k. result) (withFields result (tableSize (outputsOf f) w ∷ []))

@@ -24,14 +24,10 @@ rows-by-key-requires : tie.Need-rows-by-key-requires
 rows-by-key-requires c κs = keys-of (coder-of (c .before .before))
 
 letters-requires : tie.Need-letters-requires
-letters-requires c κs =
-    let s = string-accepted _ _ _ _ (c .before .before .before .before .before .before .before .pre .accepted) .sides in
-    (s .before-high, s .after-high)
+letters-requires c κs = string-accepted _ _ _ _ (c .before .before .before .before .before .before .before .pre .accepted) .sides .small
 
 places-requires : tie.Need-places-requires
-places-requires c κs =
-    let s = string-accepted _ _ _ _ (c .before .before .before .before .before .before .before .before .pre .accepted) .sides in
-    (s .before-high, s .after-high)
+places-requires c κs = string-accepted _ _ _ _ (c .before .before .before .before .before .before .before .before .pre .accepted) .sides .small
 
 -- the place after the call of `places`, from the call after it
 abbrev counted : tie.After-decode-places-arg4 → tie.After-places
@@ -52,7 +48,7 @@ decode-places-requires c κs =
       letters =
           letters-higher (outputsOf (now (a .file))) maxOutputs (now (a .received)) (omega (arith, s .outputs-high, outputs-of h))
           (r .letters);
-      side = r .sides .before-high;
+      side = r .sides .small .before-small;
       windows = omega (arith, k .places .ensures, k .before .letters .ensures);
       room = omega (arith, k .places .ensures, q .room);
     }

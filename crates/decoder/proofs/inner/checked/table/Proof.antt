@@ -28,9 +28,7 @@ rows-by-key-requires : tie.Need-rows-by-key-requires
 rows-by-key-requires c κs = keys-of (coder-of (c .before .before))
 
 letters-requires : tie.Need-letters-requires
-letters-requires c κs =
-    let s = table-accepted _ _ _ (c .before .before .before .before .before .before .pre .accepted) .sides in
-    (s .before-high, s .after-high)
+letters-requires c κs = table-accepted _ _ _ (c .before .before .before .before .before .before .pre .accepted) .sides .small
 
 size-requires : tie.Need-size-requires
 size-requires c κs = let s = sound-of (coder-of (c .before .before .before .before)) in (s .outputs-low, s .outputs-high)
@@ -57,7 +55,7 @@ abbrev sized : tie.After-struct-known → tie.After-size
 sized c = c .before .before .before .before .before .before .before .before .before
 
 add-fill : tie.Need-add-fill
-add-fill c = omega (arith, table-accepted _ _ _ (made (sized c) .before .before .before .pre .accepted) .sides)
+add-fill c = omega (arith, table-accepted _ _ _ (made (sized c) .before .before .before .pre .accepted) .sides .small)
 
 slice-relend-prefix-fill : tie.Need-slice-relend-prefix-fill
 slice-relend-prefix-fill c = room (sized c)

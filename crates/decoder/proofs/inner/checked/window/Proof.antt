@@ -37,7 +37,7 @@ decode-requires c κs =
         letters-higher (outputsOf (now (a .file))) maxOutputs (now (a .received)) (omega (arith, s .outputs-high, outputs-of h))
             (r .letters),
       ),
-      r .sides .before-high,
+      r .sides .small .before-small,
     )
 
 returns : tie.Need-returns

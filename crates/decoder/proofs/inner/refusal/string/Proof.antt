@@ -21,7 +21,7 @@ not-refused : (c : tie.Else1) → let a = c .before .before .before .before .arg
 not-refused c = via (c .before .sides .ensures) (c .if1 .left)
 
 places-requires : tie.Need-places-requires
-places-requires c κs = let s = sides-accepted _ _ (not-refused c) in (s .before-high, s .after-high)
+places-requires c κs = sides-accepted _ _ (not-refused c) .small
 
 returns-2 : tie.Need-returns-2
 unfolding stringRefusal

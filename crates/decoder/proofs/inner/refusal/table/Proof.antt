@@ -30,7 +30,7 @@ byte-requires : tie.Need-byte-requires
 byte-requires c κs = omega (arith, accepted _ (sides-accepted _ _ (not-refused c) .file))
 
 letters-requires : tie.Need-letters-requires
-letters-requires c κs = let s = sides-accepted _ _ (not-refused (c .before)) in (s .before-high, s .after-high)
+letters-requires c κs = sides-accepted _ _ (not-refused (c .before)) .small
 
 size-requires : tie.Need-size-requires
 size-requires c κs = omega (arith, accepted _ (sides-accepted _ _ (not-refused (c .before .before)) .file))
