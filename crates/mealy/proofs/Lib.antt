@@ -21,3 +21,5 @@ pub mod Pigeonhole
 pub mod Starts
 pub mod SameSettings
 pub mod Words
+pub mod Members
+pub mod Images

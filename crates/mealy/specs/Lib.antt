@@ -8,3 +8,4 @@ pub mod Answer
 pub mod Product
 pub mod LoopedPair
 pub mod Walk
+pub mod Image
