@@ -1,0 +1,6 @@
+-- The laws of the decoder's core.
+pub mod Answers
+pub mod Making
+pub mod Steps
+pub mod Present
+pub mod Meaning

@@ -1,0 +1,101 @@
+-- The present letter: which input letters fit, by the words that hold the states before it.
+use mathlib.Core.Path.{_≡_, refl, sym, subst}
+use mathlib.Core.List.{List, [], _∷_}
+use mathlib.Core.Logic.{_≢_}
+use Prim.Native.Nat.{ℕ, suc, _+_, _-_, _*_, _<_}
+use native.Mathlib.Omega.{arith}
+use native.Mathlib.Numerals.{add-one}
+use lib.ListN.{length, getD, take, drop, length-drop}
+use lib.Seq.{drop-cons, take-length}
+use Rattle.mealy.specs.Word.{Has, Holds}
+use Rattle.mealy.specs.Image.{Image, Transitions, Following, Reached}
+use Rattle.mealy.proofs.Words.{holds-map, holds-empty, holds-greatest}
+use Rattle.mealy.proofs.Members.{holds-member, Passed, passed-all}
+use Rattle.mealy.proofs.Images.{image-within, fitting-split}
+use Rattle.fitting.specs.Tables.{Leads, OnLetter, FittingIn}
+use Rattle.fitting.proofs.Steps.{following-same}
+
+-- where a state follows, there was one before
+pub following-some : (R : Transitions) (w : List ℕ) {P : ℕ → Type 0} (t : ℕ) → Following R P w t → (s : ℕ) × P s
+following-some R [] t h = (t, h)
+following-some R (o ∷ w) {P} t h =
+    let q = following-some R w {P = Image (R o) P} t h in
+    (q .1 .s, q .1 .from)
+
+-- the word of what follows says whether there is any
+module _ (R : Transitions) (w : List ℕ) {P : ℕ → Type 0} {set u : ℕ} (p : Holds P set) (h : Holds (Following R (Has set) w) u) where
+  pub reached-some : u ≢ 0 → Reached R P w
+  reached-some n =
+      let g = holds-greatest h n in
+      record { t = g .0; is = following-same R w {P = Has set} {P′ = P} (holds-member p) (g .0) (g .4) }
+
+  pub reached-none : u ≡ 0 → Reached R P w → ⊥
+  reached-none e r = holds-empty h e (r .t) (following-same R w {P = P} {P′ = Has set} (p .has) (r .t) (r .is))
+
+module _ (next successors letters : List ℕ) (o : ℕ) (P : ℕ → Type 0) (after : List ℕ) where
+  -- the letter x fits
+  abbrev pub FitsHere : ℕ → Type 0
+  FitsHere = FittingIn next successors letters P (o ∷ after) 0
+
+  -- and then some entry of a state of the set has it
+  fits-letter : (x : ℕ) → FitsHere x → Image (Leads letters o) P x
+  fits-letter x r =
+      let q = following-some (Leads successors) after {P = Image (OnLetter next letters x o) P} (r .t) (r .is) in
+      let i = q .1 in
+      record { s = i .s; from = i .from; step = (i .step .state, i .step .letter) }
+
+  pub here-all :
+      {candidates rest fit : ℕ} → Holds (Image (Leads letters o) P) candidates →
+      Passed candidates rest (λ x y. (y ≡ x) × FitsHere x) fit → rest ≡ 0 → Holds FitsHere fit
+  here-all {candidates} h a e =
+      holds-map
+      (λ y i. subst FitsHere (sym (i .step .0)) (i .step .1))
+      (λ y f. record { s = y; from = h .has y (fits-letter y f); step = (refl, f) })
+      (passed-all a e)
+
+-- no letter after the present one: each letter of an entry fits
+pub here-last :
+    (next successors letters : List ℕ) (o : ℕ) (P : ℕ → Type 0) (after : List ℕ) {u : ℕ} → length after ≡ 0 →
+    Holds (Image (Leads letters o) P) u → Holds (FitsHere next successors letters o P after) u
+here-last next successors letters o P [] e h =
+    holds-map
+    (λ x i. record {
+      t = getD next (16 * i .s + x) 0;
+      is = record { s = i .s; from = i .from; step = record { state = i .step .0; letter = i .step .1; to = refl } };
+    })
+    (λ x f. fits-letter next successors letters o P [] x f) h
+here-last next successors letters o P (x ∷ after) e h = absurd (omega arith)
+
+-- all letters after the present one
+pub rest : (w : List ℕ) (b : ℕ) → take (length w - (b + 1)) (drop (b + 1) w) ≡ drop (suc b) w
+rest w b = let e : b + 1 ≡ suc b = add-one b in rw (e, ← length-drop (suc b) w) (take-length (drop (suc b) w))
+
+-- the letters before the present one, the present one, and those after it
+pub window-fits :
+    (next successors letters w : List ℕ) (b starts : ℕ) {set o u : ℕ} → b < length w → o ≡ getD w b 0 →
+    Holds (Following (Leads successors) (Has starts) (take b w)) set →
+    Holds (FitsHere next successors letters o (Has set) (drop (suc b) w)) u →
+    Holds (FittingIn next successors letters (Has starts) w b) u
+window-fits next successors letters w b starts {set} {o} l e p h =
+    let R = Leads successors in
+    let E = OnLetter next letters in
+    let Q = Following R (Has starts) (take b w) in
+    let after = drop (suc b) w in
+    holds-map
+    (λ x r.
+    rw (fitting-split R E (Has starts) w b x, drop-cons w b 0 l, ← e)
+    (record {
+      t = r .t;
+      is =
+          following-same R after {P = Image (E x o) (Has set)} {P′ = Image (E x o) Q}
+          (image-within (λ s t y. y) (holds-member p)) (r .t) (r .is);
+    }))
+    (λ x f.
+    let r : Reached R (Image (E x o) Q) after = rw (fitting-split R E (Has starts) w b x, drop-cons w b 0 l, ← e) at f in
+    record {
+      t = r .t;
+      is =
+          following-same R after {P = Image (E x o) Q} {P′ = Image (E x o) (Has set)}
+          (image-within (λ s t y. y) (p .has)) (r .t) (r .is);
+    })
+    h

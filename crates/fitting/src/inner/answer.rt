@@ -1,0 +1,35 @@
+// The answer that a set of letters stands for, and its byte.
+ghost use mathlib.Core.Path.{_≡_};
+ghost use Rattle.mealy.specs.Answer.{byteOf};
+ghost use Rattle.fitting.specs.Answer.{meaning, answerOf};
+use crate::Answer;
+
+// The bytes of the answers that are no letter.
+pub const NONE: u8 = 254;
+
+pub const SEVERAL: u8 = 255;
+
+// With more letters than its greatest one, several.
+pub fn answer_of(u: u16) -> Answer
+    ensures { λ r. ⌜ r ≡ answerOf u ⌝ }
+{
+    if u == 0 {
+        return Answer::None;
+    }
+    let greatest = 15 - u16::leading_zeros(u);
+    if u != 1u16 << greatest {
+        return Answer::Several;
+    }
+    Answer::Letter(greatest as u8)
+}
+
+// The answer's byte.
+pub fn answer_byte(a: Answer) -> u8
+    ensures { λ r. ⌜ r ≡ byteOf (meaning a) ⌝ }
+{
+    match a {
+        Answer::Letter(x) => x,
+        Answer::None => NONE,
+        Answer::Several => SEVERAL,
+    }
+}
