@@ -2,5 +2,6 @@
 pub mod Answers
 pub mod Making
 pub mod Steps
+pub mod Backward
 pub mod Present
 pub mod Meaning

@@ -1,7 +1,6 @@
 -- The tables by output letter, as they are made.
 use mathlib.Core.Path.{_≡_, refl, sym, subst, _∙_}
 use mathlib.Core.Logic.{_⊎_, inl, inr, ⊎-elim}
-use mathlib.Core.Bool.{Bool}
 use mathlib.Core.List.{List}
 use Prim.Native.Nat.{ℕ, zero, suc, _+_, _*_, _/_, _%_, _^_, _<_}
 use native.Mathlib.Decide.{ℕ-discrete}
@@ -24,14 +23,14 @@ pub holds-shifted : {P : ℕ → Type 0} (x : ℕ) → x < 16 → P x → ((y : 
 holds-shifted {P} x l p h = subst (λ (u : ℕ). Holds P u) (sym (one-shifted x l)) (holds-one x l p h)
 
 -- the words hold what the entries below place n give
-pub record Made (next output : List ℕ) (inputs : ℕ) (letters : Bool) (words : List ℕ) (n : ℕ) : Type 0 where
+pub record Made (keys values output : List ℕ) (inputs : ℕ) (words : List ℕ) (n : ℕ) : Type 0 where
   pub size : length words ≡ 1024
   pub holds :
-      (o s : ℕ) → o < 64 → s < 16 → Holds (GivenBelow next output inputs letters n o s) (getD words (16 * o + s) 0)
+      (o s : ℕ) → o < 64 → s < 16 → Holds (GivenBelow keys values output inputs n o s) (getD words (16 * o + s) 0)
 
-module _ {next output : List ℕ} {inputs : ℕ} {letters : Bool} where
+module _ {keys values output : List ℕ} {inputs : ℕ} where
   pub made-none :
-      {words : List ℕ} → length words ≡ 1024 → ((p : ℕ) → getD words p 0 ≡ 0) → Made next output inputs letters words 0
+      {words : List ℕ} → length words ≡ 1024 → ((p : ℕ) → getD words p 0 ≡ 0) → Made keys values output inputs words 0
   made-none {words} e z =
       record {
         size = e;
@@ -39,25 +38,25 @@ module _ {next output : List ℕ} {inputs : ℕ} {letters : Bool} where
       }
 
   module _ {n o s x : ℕ} where
-    more : GivenBelow next output inputs letters n o s x → GivenBelow next output inputs letters (n + 1) o s x
-    more g = record { p = g .p; below = omega (arith, g .below); state = g .state; out = g .out; gives = g .gives }
+    more : GivenBelow keys values output inputs n o s x → GivenBelow keys values output inputs (n + 1) o s x
+    more g = record { p = g .p; below = omega (arith, g .below); key = g .key; out = g .out; gives = g .gives }
 
     -- by an entry before, or by the one at place n
     cases :
-        GivenBelow next output inputs letters (n + 1) o s x →
-        GivenBelow next output inputs letters n o s x ⊎ ((n / 16 ≡ s) × (getD output n 0 ≡ o) × Gives next inputs letters n x)
+        GivenBelow keys values output inputs (n + 1) o s x →
+        GivenBelow keys values output inputs n o s x ⊎ ((getD keys n 0 ≡ s) × (getD output n 0 ≡ o) × Gives values inputs n x)
     cases g =
         elim (ℕ-discrete (g .p) n) [
-          | yes e ↦ inr (rw e at (g .state), rw e at (g .out), rw e at (g .gives))
+          | yes e ↦ inr (rw e at (g .key), rw e at (g .out), rw e at (g .gives))
           | no d ↦
               let b = g .below in
-              inl (record { p = g .p; below = omega arith; state = g .state; out = g .out; gives = g .gives })
+              inl (record { p = g .p; below = omega arith; key = g .key; out = g .out; gives = g .gives })
         ]
 
   pub made-more :
-      {words : List ℕ} {n v at : ℕ} → Made next output inputs letters words n → n < 256 → getD output n 0 < 64 →
-      Holds (Gives next inputs letters n) v → at ≡ 16 * getD output n 0 + n / 16 →
-      Made next output inputs letters (set words at (bitOr (getD words at 0) v)) (n + 1)
+      {words : List ℕ} {n v at : ℕ} → Made keys values output inputs words n → getD keys n 0 < 16 → getD output n 0 < 64 →
+      Holds (Gives values inputs n) v → at ≡ 16 * getD output n 0 + getD keys n 0 →
+      Made keys values output inputs (set words at (bitOr (getD words at 0) v)) (n + 1)
   made-more {words} {n} {v} {at} a l m h e =
       let u = bitOr (getD words at 0) v in
       let long = a .size in
@@ -66,10 +65,10 @@ module _ {next output : List ℕ} {inputs : ℕ} {letters : Bool} where
         holds = λ o s lo ls. elim (ℕ-discrete (16 * o + s) at) [
           | yes q ↦
               let eo : getD output n 0 ≡ o = omega arith in
-              let es : n / 16 ≡ s = omega arith in
+              let es : getD keys n 0 ≡ s = omega arith in
               rw (q, getD-set-same words at u 0 (omega arith))
-              (holds-map {P = λ x. GivenBelow next output inputs letters n o s x ⊎ Gives next inputs letters n x}
-              (λ x. ⊎-elim (λ g. more g) (λ g. record { p = n; below = omega arith; state = es; out = eo; gives = g }))
+              (holds-map {P = λ x. GivenBelow keys values output inputs n o s x ⊎ Gives values inputs n x}
+              (λ x. ⊎-elim (λ g. more g) (λ g. record { p = n; below = omega arith; key = es; out = eo; gives = g }))
               (λ x g. ⊎-elim (λ k. inl k) (λ k. inr (k .2)) (cases g))
               (holds-union (rw q at (a .holds o s lo ls)) h))
           | no d ↦

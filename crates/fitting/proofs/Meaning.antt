@@ -1,10 +1,12 @@
 -- What the tables of a coder mean: the letters that fit by the tables are those that fit by the coder's runs.
-use mathlib.Core.Path.{_≡_, _∙_}
+use mathlib.Core.Path.{_≡_, sym, _∙_}
 use mathlib.Core.Bool.{Bool, true, false}
 use mathlib.Core.List.{List, [], _∷_}
-use Prim.Native.Nat.{ℕ, _+_, _*_, _%_, _<_}
+use Prim.Native.Nat.{ℕ, _+_, _*_, _/_, _%_, _<_, _≤_}
 use native.Mathlib.Omega.{arith}
-use lib.ListN.{getD}
+use native.Mathlib.Decide.{decLt}
+use lib.ListN.{length, getD, List·getD-eq-default}
+use Rattle.coder.proofs.Fill.{length-table, getD-table}
 use Rattle.mealy.specs.Machine.{Machine, Letters}
 use Rattle.mealy.specs.Word.{Has, Holds}
 use Rattle.mealy.specs.Answer.{Fits}
@@ -19,16 +21,36 @@ use Rattle.setting.specs.Words.{settingOfCoder}
 use Rattle.fitting.specs.Answer.{Right, answerOf}
 use Rattle.fitting.specs.declared.Answer.{Answer}
 use Rattle.fitting.proofs.Answers.{holds-right}
-use Rattle.fitting.specs.Tables.{givenAt, GivenBelow, EntriesAsked, Leads, OnLetter, FittingIn, TablesAsked, TablesOf}
+use Rattle.fitting.specs.Tables.{partOf, partsOf, GivenBelow, EntriesAsked, Leads, OnLetter, FittingIn, TablesAsked, TablesOf}
 
 -- what making the tables asks, of a sound coder
-pub entries-asked : {c : Coder} → Sound c → EntriesAsked (c .next) (c .output) (c .states)
-entries-asked {c} s =
-    record {
-      states-high = s .states-high;
-      next-high = λ p. omega (arith, next-high c s p, s .states-high);
-      output-high = λ p. omega (arith, output-high c s p, s .outputs-high);
-    }
+part-low : (letters : Bool) (p : ℕ) → p < 256 → partOf letters p < 16
+part-low true p l = omega arith
+part-low false p l = omega arith
+
+pub parts-high : (letters : Bool) (p : ℕ) → getD (partsOf letters) p 0 < 16
+parts-high letters p =
+    elim (decLt p 256) [
+      | yes l ↦ rw (getD-table 256 (partOf letters) p l) (part-low letters p l)
+      | no l ↦
+          let n = length-table 256 (partOf letters) in
+          let m : length (partsOf letters) ≤ p = omega arith in
+          rw (List·getD-eq-default (partsOf letters) 0 m) (omega arith)
+    ]
+
+module _ {c : Coder} (s : Sound c) where
+  pub next-low : (p : ℕ) → getD (c .next) p 0 < 16
+  next-low p = omega (arith, next-high c s p, s .states-high)
+
+  pub entries-asked :
+      (keys values : List ℕ) → ((p : ℕ) → getD keys p 0 < 16) → ((p : ℕ) → getD values p 0 < 16) → EntriesAsked keys values (c .output) (c .states)
+  entries-asked keys values k v =
+      record {
+        states-high = s .states-high;
+        keys-high = k;
+        values-high = v;
+        output-high = λ p. omega (arith, output-high c s p, s .outputs-high);
+      }
 
 module _ (c : Coder) (sound : Sound c) where
   abbrev M : Machine
@@ -36,22 +58,21 @@ module _ (c : Coder) (sound : Sound c) where
 
   -- a place of the tables and the entry there
   place-entry :
-      {letters : Bool} {o s y : ℕ} (g : GivenBelow (c .next) (c .output) (c .inputs) letters (16 * c .states) o s y) →
-      Entry M (g .p % 16) o s (getD (c .next) (g .p) 0)
-  place-entry g =
+      (keys values : List ℕ) {o s y : ℕ} (g : GivenBelow keys values (c .output) (c .inputs) (16 * c .states) o s y) →
+      Entry M (g .p % 16) o (g .p / 16) (getD (c .next) (g .p) 0)
+  place-entry keys values g =
       let b = g .below in
-      let e = g .state in
       record {
         state = omega arith;
         letter = g .gives .0;
-        output = rw (← e) (table-at (c .output) (g .p) ∙ g .out);
-        to = rw (← e) (table-at (c .next) (g .p));
+        output = table-at (c .output) (g .p) ∙ g .out;
+        to = table-at (c .next) (g .p);
       }
 
   entry-place :
-      {x o s t : ℕ} (letters : Bool) {y : ℕ} → Entry M x o s t → givenAt (c .next) letters (16 * s + x) ≡ y →
-      GivenBelow (c .next) (c .output) (c .inputs) letters (16 * c .states) o s y
-  entry-place {x} {o} {s} letters e q =
+      {x o s t : ℕ} (keys values : List ℕ) {k y : ℕ} → Entry M x o s t → getD keys (16 * s + x) 0 ≡ k → getD values (16 * s + x) 0 ≡ y →
+      GivenBelow keys values (c .output) (c .inputs) (16 * c .states) o k y
+  entry-place {x} {o} {s} keys values e f q =
       let l = e .state in
       let m = e .letter in
       let h = sound .inputs-high in
@@ -59,56 +80,94 @@ module _ (c : Coder) (sound : Sound c) where
       record {
         p = 16 * s + x;
         below = omega arith;
-        state = omega arith;
+        key = f;
         out = table-place (c .output) s x (omega arith) ∙ e .output;
         gives = (rw i m, q);
       }
 
-module _ {c : Coder} {next successors letters : List ℕ} {starts : ℕ} (k : TablesOf c next successors letters starts) where
-  pub tables-asked : TablesAsked next successors letters
-  tables-asked =
-      record {
-        next-high = λ p. rw (k .next-is) (omega (arith, next-high c (k .sound) p, k .sound .states-high));
-        successors-words = λ o s l m. k .successors-are .holds o s l m .bound;
-        letters-words = λ o s l m. k .letters-are .holds o s l m .bound;
-      }
+  -- the parts of a place
+  part-at : (letters : Bool) (p : ℕ) → p < 16 * c .states → getD (partsOf letters) p 0 ≡ partOf letters p
+  part-at letters p l = let h = sound .states-high in getD-table 256 (partOf letters) p (omega arith)
 
-  leads-successor : (o s t : ℕ) → o < 64 → Leads successors o s t → Successor (machineOfCoder c) o s t
+module _ {c : Coder} {next successors predecessors letters : List ℕ} {starts : ℕ}
+    (k : TablesOf c next successors predecessors letters starts) where
+  abbrev N : Machine
+  N = machineOfCoder c
+
+  leads-successor : (o s t : ℕ) → o < 64 → Leads successors o s t → Successor N o s t
   leads-successor o s t l h =
       let g = holds-member (k .successors-are .holds o s l (h .0)) t (h .1) in
-      record { x = g .p % 16; entry = rw (g .gives .1) at (place-entry c (k .sound) g) }
+      let e : g .p / 16 ≡ s = sym (part-at c (k .sound) false (g .p) (g .below)) ∙ g .key in
+      record { x = g .p % 16; entry = rw (g .gives .1, e) at (place-entry c (k .sound) (partsOf false) (c .next) g) }
 
-  successor-leads : (o s t : ℕ) → o < 64 → Successor (machineOfCoder c) o s t → Leads successors o s t
-  successor-leads o s t l e =
-      let m = e .entry .state in
-      let n = k .sound .states-high in
-      let i = k .sound .inputs-high in
-      let j = e .entry .letter in
-      let b : s < 16 = omega arith in (
-        b,
-        k .successors-are .holds o s l b .has t
-            (entry-place c (k .sound) false (e .entry) (table-place (c .next) s (e .x) (omega arith) ∙ e .entry .to)),
-      )
+  module _ (o s t : ℕ) (l : o < 64) (e : Successor N o s t) where
+    abbrev x : ℕ
+    x = e .x
 
-  on-entry : (x o s t : ℕ) → o < 64 → OnLetter next letters x o s t → Entry (machineOfCoder c) x o s t
+    low : s < 16
+    low = let m = e .entry .state in let n = k .sound .states-high in omega arith
+
+    small : x < 16
+    small = let j = e .entry .letter in let i = k .sound .inputs-high in omega arith
+
+    at : getD (c .next) (16 * s + x) 0 ≡ t
+    at = table-place (c .next) s x small ∙ e .entry .to
+
+    in-table : 16 * s + x < 16 * c .states
+    in-table = let m = e .entry .state in let y = small in omega arith
+
+    state-at : getD (partsOf false) (16 * s + x) 0 ≡ s
+    state-at = part-at c (k .sound) false (16 * s + x) in-table ∙ (let y = small in omega arith)
+
+    successor-leads : Leads successors o s t
+    successor-leads = (low, k .successors-are .holds o s l low .has t (entry-place c (k .sound) (partsOf false) (c .next) (e .entry) state-at at))
+
+    successor-back : Leads predecessors o t s
+    successor-back =
+        let m : t < 16 = rw at at (next-low (k .sound) (16 * s + x)) in
+        (m, k .predecessors-are .holds o t l m .has s (entry-place c (k .sound) (c .next) (partsOf false) (e .entry) at state-at))
+
+  back-successor : (o s t : ℕ) → o < 64 → Leads predecessors o t s → Successor N o s t
+  back-successor o s t l h =
+      let g = holds-member (k .predecessors-are .holds o t l (h .0)) s (h .1) in
+      let e : g .p / 16 ≡ s = sym (part-at c (k .sound) false (g .p) (g .below)) ∙ g .gives .1 in
+      record { x = g .p % 16; entry = rw (g .key, e) at (place-entry c (k .sound) (c .next) (partsOf false) g) }
+
+  pub tables-asked : TablesAsked next successors predecessors letters
+  tables-asked =
+      record {
+        next-high = λ p. rw (k .next-is) (next-low (k .sound) p);
+        successors-words = λ o s l m. k .successors-are .holds o s l m .bound;
+        predecessors-words = λ o s l m. k .predecessors-are .holds o s l m .bound;
+        letters-words = λ o s l m. k .letters-are .holds o s l m .bound;
+        turned = λ o s t l h. successor-back o s t l (leads-successor o s t l h);
+        turned′ = λ o s t l h. successor-leads o s t l (back-successor o s t l h);
+      }
+
+  on-entry : (x o s t : ℕ) → o < 64 → OnLetter next letters x o s t → Entry N x o s t
   on-entry x o s t l h =
       let g = holds-member (k .letters-are .holds o s l (h .state)) x (h .letter) in
-      let e = g .state in
-      let f : g .p % 16 ≡ x = g .gives .1 in
+      let e : g .p / 16 ≡ s = sym (part-at c (k .sound) false (g .p) (g .below)) ∙ g .key in
+      let f : g .p % 16 ≡ x = sym (part-at c (k .sound) true (g .p) (g .below)) ∙ g .gives .1 in
       let at : 16 * s + x ≡ g .p = omega arith in
       let to : getD (c .next) (g .p) 0 ≡ t = rw (k .next-is, at) at (h .to) in
-      rw (f, to) at (place-entry c (k .sound) g)
+      rw (f, to, e) at (place-entry c (k .sound) (partsOf false) (partsOf true) g)
 
-  entry-on : (x o s t : ℕ) → o < 64 → Entry (machineOfCoder c) x o s t → OnLetter next letters x o s t
+  entry-on : (x o s t : ℕ) → o < 64 → Entry N x o s t → OnLetter next letters x o s t
   entry-on x o s t l e =
       let m = e .state in
       let n = k .sound .states-high in
       let i = k .sound .inputs-high in
       let j = e .letter in
       let b : s < 16 = omega arith in
+      let in-table : 16 * s + x < 16 * c .states = omega arith in
       record {
         state = b;
-        letter = k .letters-are .holds o s l b .has x (entry-place c (k .sound) true e (omega arith));
+        letter =
+            k .letters-are .holds o s l b .has x
+            (entry-place c (k .sound) (partsOf false) (partsOf true) e
+            (part-at c (k .sound) false (16 * s + x) in-table ∙ omega arith)
+            (part-at c (k .sound) true (16 * s + x) in-table ∙ omega arith));
         to = rw (k .next-is) (table-place (c .next) s x (omega arith) ∙ e .to);
       }
 
@@ -117,7 +176,6 @@ module _ {c : Coder} {next successors letters : List ℕ} {starts : ℕ} (k : Ta
       Holds (Fits (settingOfCoder c) w b) u
   fits-in w b l =
       let S = settingOfCoder c in
-      let N = machineOfCoder c in
       holds-map
       (λ x f.
       fitting-fits S w b x (S .Start)

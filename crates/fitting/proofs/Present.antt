@@ -8,11 +8,13 @@ use native.Mathlib.Numerals.{add-one}
 use lib.ListN.{length, getD, take, drop, length-drop}
 use lib.Seq.{drop-cons, take-length}
 use Rattle.mealy.specs.Word.{Has, Holds}
-use Rattle.mealy.specs.Image.{Image, Transitions, Following, Reached}
+use Rattle.mealy.specs.Image.{Image, Transitions, Following, Leading, Reached, Fitting}
 use Rattle.mealy.proofs.Words.{holds-map, holds-empty, holds-greatest}
-use Rattle.mealy.proofs.Members.{holds-member, Passed, passed-all}
+use Rattle.mealy.proofs.Members.{holds-member}
+use Rattle.mealy.proofs.Leading.{Known, reached-leading, leading-reached}
+use Rattle.mealy.specs.Machine.{Letters}
 use Rattle.mealy.proofs.Images.{image-within, fitting-split}
-use Rattle.fitting.specs.Tables.{Leads, OnLetter, FittingIn}
+use Rattle.fitting.specs.Tables.{Leads, OnLetter, Between, FittingIn, TablesAsked}
 use Rattle.fitting.proofs.Steps.{following-same}
 
 -- where a state follows, there was one before
@@ -21,16 +23,6 @@ following-some R [] t h = (t, h)
 following-some R (o ∷ w) {P} t h =
     let q = following-some R w {P = Image (R o) P} t h in
     (q .1 .s, q .1 .from)
-
--- the word of what follows says whether there is any
-module _ (R : Transitions) (w : List ℕ) {P : ℕ → Type 0} {set u : ℕ} (p : Holds P set) (h : Holds (Following R (Has set) w) u) where
-  pub reached-some : u ≢ 0 → Reached R P w
-  reached-some n =
-      let g = holds-greatest h n in
-      record { t = g .0; is = following-same R w {P = Has set} {P′ = P} (holds-member p) (g .0) (g .4) }
-
-  pub reached-none : u ≡ 0 → Reached R P w → ⊥
-  reached-none e r = holds-empty h e (r .t) (following-same R w {P = P} {P′ = Has set} (p .has) (r .t) (r .is))
 
 module _ (next successors letters : List ℕ) (o : ℕ) (P : ℕ → Type 0) (after : List ℕ) where
   -- the letter x fits
@@ -44,14 +36,41 @@ module _ (next successors letters : List ℕ) (o : ℕ) (P : ℕ → Type 0) (af
       let i = q .1 in
       record { s = i .s; from = i .from; step = (i .step .state, i .step .letter) }
 
-  pub here-all :
-      {candidates rest fit : ℕ} → Holds (Image (Leads letters o) P) candidates →
-      Passed candidates rest (λ x y. (y ≡ x) × FitsHere x) fit → rest ≡ 0 → Holds FitsHere fit
-  here-all {candidates} h a e =
-      holds-map
-      (λ y i. subst FitsHere (sym (i .step .0)) (i .step .1))
-      (λ y f. record { s = y; from = h .has y (fits-letter y f); step = (refl, f) })
-      (passed-all a e)
+  -- by the states from which the letters after the present one can be produced
+  module _ (predecessors : List ℕ) (asked : TablesAsked next successors predecessors letters) (below : Letters 64 after) where
+    abbrev R : Transitions
+    R = Leads successors
+
+    abbrev Q : Transitions
+    Q = Leads predecessors
+
+    to : (k s t : ℕ) → k < 64 → R k s t → Q k t s × (t < 16)
+    to k s t l h = let z = asked .turned k s t l h in (z, z .0)
+
+    known : (w : List ℕ) → Letters 64 w → Known R Q (λ t. t < 16) (λ k. k < 64) to (asked .turned′) w
+    known [] l = tt
+    known (k ∷ w) l = (l .0, known w (l .1))
+
+    pub here-between :
+        {from fit : ℕ} → Holds (Leading Q (λ s. s < 16) after) from → Holds (Image (Between next letters o from) P) fit →
+        Holds FitsHere fit
+    here-between {from} a h =
+        holds-map
+        (λ x i. leading-reached R Q (λ t. t < 16) (λ k. k < 64) to (asked .turned′) after (known after below) (Image (OnLetter next letters x o) P) (record {
+          s = getD next (16 * i .s + x) 0;
+          first = record { s = i .s; from = i .from; step = record { state = i .step .0 .0; letter = i .step .0 .1; to = refl } };
+          second = holds-member a (getD next (16 * i .s + x) 0) (i .step .1);
+        }))
+        (λ x r.
+        let m = reached-leading R Q (λ t. t < 16) (λ k. k < 64) to (asked .turned′) after (known after below) (Image (OnLetter next letters x o) P)
+        (λ t i. rw (← i .step .to) (asked .next-high _)) r in
+        let i = m .first in
+        record {
+          s = i .s;
+          from = i .from;
+          step = ((i .step .state, i .step .letter), rw (i .step .to) (a .has (m .s) (m .second)));
+        })
+        h
 
 -- no letter after the present one: each letter of an entry fits
 pub here-last :

@@ -12,7 +12,7 @@ use Rattle.mealy.proofs.Words.{holds-map, holds-none, has-empty}
 use Rattle.mealy.proofs.Members.{holds-member, holds-itself}
 use Rattle.mealy.proofs.Images.{Within, All, following-within, following-none}
 
-drop-none : (w : List ℕ) (k : ℕ) → length w ≤ k → drop k w ≡ []
+pub drop-none : (w : List ℕ) (k : ℕ) → length w ≤ k → drop k w ≡ []
 drop-none [] zero l = refl
 drop-none [] (suc k) l = refl
 drop-none (x ∷ w) zero l = absurd (omega arith)

@@ -1,48 +1,55 @@
--- The tables that the core works on: for state s and output letter o a word at 16 o + s.
+-- The tables that the core works on: of the entries with one output letter, for each state its successors, its predecessors and its
+-- input letters, a word each.
 use Prim.Native.Nat.{ℕ, _+_, _*_, _/_, _%_, _<_, _≤_}
 use mathlib.Core.Path.{_≡_}
 use mathlib.Core.Bool.{Bool, true, false, cond}
 use mathlib.Core.List.{List}
 use lib.ListN.{length, getD}
+use Rattle.mealy.specs.Machine.{Letters}
 use Rattle.mealy.specs.Word.{Has, Holds}
 use Rattle.mealy.specs.Image.{Transitions, Fitting}
-use Rattle.coder.specs.Table.{Sound}
+use Rattle.coder.specs.Table.{table, Sound}
 use Rattle.coder.specs.declared.inner.tables.Coder.{Coder}
 use Rattle.setting.specs.Words.{settingOfCoder}
 
--- what the entry at place p of a coder's tables gives: with `letters` its input letter, else its next state
-abbrev pub givenAt : List ℕ → Bool → ℕ → ℕ
-givenAt next letters p = cond letters (p % 16) (getD next p 0)
+-- the state of each place of a coder's tables or, with `letters`, its input letter
+abbrev pub partOf : Bool → ℕ → ℕ
+partOf letters p = cond letters (p % 16) (p / 16)
 
-abbrev pub Gives : List ℕ → ℕ → Bool → ℕ → ℕ → Type 0
-Gives next inputs letters p x = (p % 16 < inputs) × (givenAt next letters p ≡ x)
+abbrev pub partsOf : Bool → List ℕ
+partsOf letters = table 256 (partOf letters)
 
--- some entry of state s with the output letter o, at a place below n, gives x
-pub record GivenBelow (next output : List ℕ) (inputs : ℕ) (letters : Bool) (n o s x : ℕ) : Type 0 where
+-- the entry at place p, if there is one, has the value x
+abbrev pub Gives : List ℕ → ℕ → ℕ → ℕ → Type 0
+Gives values inputs p x = (p % 16 < inputs) × (getD values p 0 ≡ x)
+
+-- some entry with the key s and the output letter o, at a place below n, has the value x
+pub record GivenBelow (keys values output : List ℕ) (inputs n o s x : ℕ) : Type 0 where
   pub p : ℕ
   pub below : p < n
-  pub state : p / 16 ≡ s
+  pub key : getD keys p 0 ≡ s
   pub out : getD output p 0 ≡ o
-  pub gives : Gives next inputs letters p x
+  pub gives : Gives values inputs p x
 
 -- what making such a table asks
-pub record EntriesAsked (next output : List ℕ) (states : ℕ) : Type 0 where
+pub record EntriesAsked (keys values output : List ℕ) (states : ℕ) : Type 0 where
   pub states-high : states ≤ 16
-  pub next-high : (p : ℕ) → getD next p 0 < 16
+  pub keys-high : (p : ℕ) → getD keys p 0 < 16
+  pub values-high : (p : ℕ) → getD values p 0 < 16
   pub output-high : (p : ℕ) → getD output p 0 < 64
 
--- and what it makes: with `letters` the input letters, else the successors
-pub record ByOutput (next output : List ℕ) (states inputs : ℕ) (letters : Bool) (words : List ℕ) : Type 0 where
+-- and what it makes: for the key s and the output letter o the word at 16 o + s
+pub record ByOutput (keys values output : List ℕ) (states inputs : ℕ) (words : List ℕ) : Type 0 where
   pub size : length words ≡ 1024
   pub holds :
       (o s : ℕ) → o < 64 → s < 16 →
-      Holds (GivenBelow next output inputs letters (16 * states) o s) (getD words (16 * o + s) 0)
+      Holds (GivenBelow keys values output inputs (16 * states) o s) (getD words (16 * o + s) 0)
 
 -- each place of such a table holds a word
 abbrev pub Words : List ℕ → Type 0
 Words words = (o s : ℕ) → o < 64 → s < 16 → getD words (16 * o + s) 0 < 65536
 
--- the transitions in a table of successors
+-- the transitions in such a table
 abbrev pub Leads : List ℕ → Transitions
 Leads words o s t = (s < 16) × Has (getD words (16 * o + s) 0) t
 
@@ -52,25 +59,40 @@ pub record OnLetter (next letters : List ℕ) (x o s t : ℕ) : Type 0 where
   pub letter : Has (getD letters (16 * o + s) 0) x
   pub to : getD next (16 * s + x) 0 ≡ t
 
+-- an entry of state s with the input letter x and the output letter o leads to a state of the set `from`
+abbrev pub Between : List ℕ → List ℕ → ℕ → ℕ → ℕ → ℕ → Type 0
+Between next letters o from s x = Leads letters o s x × Has from (getD next (16 * s + x) 0)
+
 -- the letters that fit, by the tables
 abbrev pub FittingIn : List ℕ → List ℕ → List ℕ → (ℕ → Type 0) → List ℕ → ℕ → ℕ → Type 0
 FittingIn next successors letters = Fitting (Leads successors) (OnLetter next letters)
 
--- what the functions on these tables ask of them
-pub record TablesAsked (next successors letters : List ℕ) : Type 0 where
+-- what the functions on these tables ask of them: words, and predecessors that are the successors turned round
+pub record TablesAsked (next successors predecessors letters : List ℕ) : Type 0 where
   pub next-high : (p : ℕ) → getD next p 0 < 16
   pub successors-words : Words successors
+  pub predecessors-words : Words predecessors
   pub letters-words : Words letters
+  pub turned : (o s t : ℕ) → o < 64 → Leads successors o s t → Leads predecessors o t s
+  pub turned′ : (o s t : ℕ) → o < 64 → Leads predecessors o t s → Leads successors o s t
+
+pub record PresentAsked (next predecessors letters : List ℕ) (o : ℕ) (after : List ℕ) : Type 0 where
+  pub next-high : (p : ℕ) → getD next p 0 < 16
+  pub predecessors-words : Words predecessors
+  pub letters-words : Words letters
+  pub letter : o < 64
+  pub after-letters : Letters 64 after
 
 -- the arrays that the functions inside take are those of the coder c
-pub record TablesOf (c : Coder) (next successors letters : List ℕ) (starts : ℕ) : Type 0 where
+pub record TablesOf (c : Coder) (next successors predecessors letters : List ℕ) (starts : ℕ) : Type 0 where
   pub sound : Sound c
   pub next-is : next ≡ c .next
-  pub successors-are : ByOutput (c .next) (c .output) (c .states) (c .inputs) false successors
-  pub letters-are : ByOutput (c .next) (c .output) (c .states) (c .inputs) true letters
+  pub successors-are : ByOutput (partsOf false) (c .next) (c .output) (c .states) (c .inputs) successors
+  pub predecessors-are : ByOutput (c .next) (partsOf false) (c .output) (c .states) (c .inputs) predecessors
+  pub letters-are : ByOutput (partsOf false) (partsOf true) (c .output) (c .states) (c .inputs) letters
   pub starts-are : Holds (settingOfCoder c .Start) starts
 
 -- they are those of some coder
-pub record Tables (next successors letters : List ℕ) (starts : ℕ) : Type 0 where
+pub record Tables (next successors predecessors letters : List ℕ) (starts : ℕ) : Type 0 where
   pub coder : Coder
-  pub is : TablesOf coder next successors letters starts
+  pub is : TablesOf coder next successors predecessors letters starts

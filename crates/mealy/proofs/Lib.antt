@@ -23,3 +23,4 @@ pub mod SameSettings
 pub mod Words
 pub mod Members
 pub mod Images
+pub mod Leading

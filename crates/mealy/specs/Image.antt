@@ -19,6 +19,11 @@ abbrev pub Following : Transitions → (ℕ → Type 0) → List ℕ → ℕ →
 Following R P [] = P
 Following R P (o ∷ w) = Following R (Image (R o) P) w
 
+-- the states before all letters of w, to the states of P, with Q the transitions from their ends back
+abbrev pub Leading : Transitions → (ℕ → Type 0) → List ℕ → ℕ → Type 0
+Leading Q P [] = P
+Leading Q P (o ∷ w) = Image (Q o) (Leading Q P w)
+
 -- there is such a state
 pub record Reached (R : Transitions) (P : ℕ → Type 0) (w : List ℕ) : Type 0 where
   pub t : ℕ

@@ -1,3 +1,3 @@
 -- Laws that other crates cite.
-mod Numbers
+pub mod Numbers
 pub mod Same

@@ -1,11 +1,13 @@
-// The states that follow a set of states: on one received letter, on several, and by one input letter.
-ghost use Prim.Native.Nat.{ℕ, _<_};
+// Sets of states along received letters: those that follow, those that lead to them, and the input letters of the entries between two sets.
+ghost use mathlib.Core.Path.{_≡_};
+ghost use Prim.Native.Nat.{ℕ, _+_, _*_, _<_};
 ghost use lib.ListN.{getD};
 ghost use Rattle.mealy.specs.Machine.{Letters};
 ghost use Rattle.mealy.specs.Word.{Has, Holds};
-ghost use Rattle.mealy.specs.Image.{Image, Following};
-ghost use Rattle.fitting.specs.Tables.{Words, Leads, OnLetter};
+ghost use Rattle.mealy.specs.Image.{Image, Following, Leading};
+ghost use Rattle.fitting.specs.Tables.{Words, Leads, Between};
 use coder::inner::bytes::byte;
+use coder::inner::bytes::number;
 use coder::inner::tables::Coder;
 use setting::inner::has;
 
@@ -41,35 +43,67 @@ pub fn follow(successors: &[u16; 1024], w: &[u8], set: u16) -> u16
     to
 }
 
-// The state that the entry of state s and input letter x leads to, where its output letter is o.
-fn next_on<'a>(next: &'a [u8; 256], letters: &'a [u16; 1024], x: usize, o: usize, s: usize) -> u16
-    requires { ⌜ (x < 16) × (o < 64) × (s < 16) × ((k : ℕ) → getD (now next) k 0 < 16) ⌝ }
-    ensures { λ r. ⌜ Holds (OnLetter (now (next .entry)) (now (letters .entry)) x o s) r ⌝ }
+// The states from which all letters of w can be produced.
+pub fn lead(predecessors: &[u16; 1024], w: &[u8]) -> u16
+    requires { ⌜ Words (now predecessors) × Letters 64 (now w) ⌝ }
+    ensures { λ r. ⌜ Holds (Leading (Leads (now (predecessors .entry))) (λ s. s < 16) (now (w .entry))) r ⌝ }
 {
-    if has(letters[Coder::STATES * o + s], x) {
-        1u16 << next[Coder::INPUTS * s + x]
+    let mut from = 65535u16;
+    let mut k = w.len();
+    while 0 < k {
+        if from == 0 {
+            return 0;
+        }
+        k -= 1;
+        from = image(predecessors, byte(w, k), from);
+    }
+    from
+}
+
+// The letter x where the entry of state s on it leads to a state of the set `from`.
+fn on_letter(next: &[u8; 256], s: usize, x: usize, from: u16) -> u16
+    requires { ⌜ (s < 16) × (x < 16) × ((k : ℕ) → getD (now next) k 0 < 16) ⌝ }
+    ensures { λ r. ⌜ Holds (λ y. (y ≡ x) × Has from (getD (now (next .entry)) (16 * s + x) 0)) r ⌝ }
+{
+    if has(from, number(next[Coder::INPUTS * s + x])) {
+        1u16 << x
     } else {
         0
     }
 }
 
-// The states that follow a set of states on the received letter o by the input letter x.
-pub fn through<'a>(
+// Of a set of letters those on which the entries of state s lead to states of the set `from`.
+fn of_state(next: &[u8; 256], s: usize, letters: u16, from: u16) -> u16
+    requires { ⌜ (s < 16) × ((k : ℕ) → getD (now next) k 0 < 16) ⌝ }
+    ensures { λ r. ⌜ Holds (λ x. Has letters x × Has from (getD (now (next .entry)) (16 * s + x) 0)) r ⌝ }
+{
+    let mut fit = 0u16;
+    let mut rest = letters;
+    while rest != 0 {
+        let x = u16::trailing_zeros(rest) as usize;
+        fit = fit | on_letter(next, s, x, from);
+        rest = rest & (rest - 1);
+    }
+    fit
+}
+
+// The letters of the entries with output letter o that lead from the states of `set` to states of `from`.
+pub fn between<'a>(
     next: &'a [u8; 256],
     letters: &'a [u16; 1024],
-    x: usize,
     o: usize,
     set: u16,
+    from: u16,
 ) -> u16
-    requires { ⌜ (x < 16) × (o < 64) × ((k : ℕ) → getD (now next) k 0 < 16) ⌝ }
-    ensures { λ r. ⌜ Holds (Image (OnLetter (now (next .entry)) (now (letters .entry)) x o) (Has set)) r ⌝ }
+    requires { ⌜ Words (now letters) × (o < 64) × ((k : ℕ) → getD (now next) k 0 < 16) ⌝ }
+    ensures { λ r. ⌜ Holds (Image (Between (now (next .entry)) (now (letters .entry)) o from) (Has set)) r ⌝ }
 {
-    let mut to = 0u16;
+    let mut fit = 0u16;
     let mut rest = set;
     while rest != 0 {
         let s = u16::trailing_zeros(rest) as usize;
-        to = to | next_on(next, letters, x, o, s);
+        fit = fit | of_state(next, s, letters[Coder::STATES * o + s], from);
         rest = rest & (rest - 1);
     }
-    to
+    fit
 }

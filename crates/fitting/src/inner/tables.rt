@@ -1,10 +1,9 @@
-// Two tables of a coder by output letter: for state s and output letter o a word at 16 o + s.
+// Tables of a coder by output letter: for state s and output letter o a word at 16 o + s.
 ghost use mathlib.Core.Path.{_≡_};
 ghost use Prim.Native.Nat.{ℕ, _<_};
-ghost use mathlib.Core.Bool.{Bool};
 ghost use lib.ListN.{length, getD};
 ghost use Rattle.mealy.specs.Word.{Holds};
-ghost use Rattle.fitting.specs.Tables.{EntriesAsked, Gives, ByOutput};
+ghost use Rattle.fitting.specs.Tables.{partOf, partsOf, EntriesAsked, Gives, ByOutput};
 use coder::inner::tables::Coder;
 
 fn none() -> [u16; 1024]
@@ -13,37 +12,59 @@ fn none() -> [u16; 1024]
     [0u16; 1024]
 }
 
-// What the entry at place p gives: its letter, or its next state; nothing where there is no entry.
-fn given(next: &[u8; 256], inputs: usize, letters: bool, p: usize) -> u16
-    requires { ⌜ (p < 256) × ((k : ℕ) → getD (now next) k 0 < 16) ⌝ }
-    ensures { λ r. ⌜ Holds (Gives (now (next .entry)) inputs letters p) r ⌝ }
+// The state of place p of a coder's tables, or its input letter.
+fn part(letters: bool, p: usize) -> u8
+    requires { ⌜ p < 256 ⌝ }
+    ensures { λ r. ⌜ r ≡ partOf letters p ⌝ }
 {
-    let x = p % Coder::INPUTS;
-    if x < inputs {
-        if letters {
-            return 1u16 << x;
-        }
-        return 1u16 << next[p];
+    if letters {
+        (p % Coder::INPUTS) as u8
+    } else {
+        (p / Coder::INPUTS) as u8
     }
-    0
 }
 
-// The successors of each state or, with `letters`, the input letters of its entries, by output letter.
-pub fn by_output(
-    next: &[u8; 256],
-    output: &[u8; 256],
+// The state of each place, or its input letter.
+pub fn parts(letters: bool) -> [u8; 256]
+    ensures { λ r. ⌜ r ≡ partsOf letters ⌝ }
+{
+    let mut a = [0u8; 256];
+    let mut p = 0;
+    while p < 256 {
+        a[p] = part(letters, p);
+        p += 1;
+    }
+    a
+}
+
+// The value of the entry at place p; nothing where there is no entry.
+fn given(values: &[u8; 256], inputs: usize, p: usize) -> u16
+    requires { ⌜ (p < 256) × ((k : ℕ) → getD (now values) k 0 < 16) ⌝ }
+    ensures { λ r. ⌜ Holds (Gives (now (values .entry)) inputs p) r ⌝ }
+{
+    if p % Coder::INPUTS < inputs {
+        1u16 << values[p]
+    } else {
+        0
+    }
+}
+
+// For each key and output letter the values of the entries that have them.
+pub fn by_output<'a>(
+    keys: &'a [u8; 256],
+    values: &'a [u8; 256],
+    output: &'a [u8; 256],
     states: usize,
     inputs: usize,
-    letters: bool,
 ) -> [u16; 1024]
-    requires { ⌜ EntriesAsked (now next) (now output) states ⌝ }
-    ensures { λ r. ⌜ ByOutput (now (next .entry)) (now (output .entry)) states inputs letters r ⌝ }
+    requires { ⌜ EntriesAsked (now keys) (now values) (now output) states ⌝ }
+    ensures { λ r. ⌜ ByOutput (now (keys .entry)) (now (values .entry)) (now (output .entry)) states inputs r ⌝ }
 {
     let mut words = none();
     let mut p = 0;
     while p < Coder::INPUTS * states {
-        let at = Coder::STATES * (output[p] as usize) + p / Coder::INPUTS;
-        words[at] = words[at] | given(next, inputs, letters, p);
+        let at = Coder::STATES * (output[p] as usize) + keys[p] as usize;
+        words[at] = words[at] | given(values, inputs, p);
         p += 1;
     }
     words

@@ -1,97 +1,71 @@
 // The letters that fit a window, and the answer.
 ghost use mathlib.Core.Path.{_≡_};
 ghost use Prim.Native.Nat.{ℕ, _<_};
-ghost use mathlib.Core.List.{_∷_};
+ghost use mathlib.Core.List.{List, _∷_};
 ghost use lib.ListN.{length};
 ghost use Rattle.mealy.specs.Machine.{Letters};
 ghost use Rattle.mealy.specs.Word.{Has, Holds};
 ghost use Rattle.coder.specs.declared.inner.tables.Coder.{Coder};
 ghost use Rattle.setting.specs.Words.{settingOfCoder};
 ghost use Rattle.fitting.specs.Answer.{Right};
-ghost use Rattle.fitting.specs.Tables.{TablesAsked, FittingIn, TablesOf, Tables};
+ghost use Rattle.fitting.specs.Tables.{TablesAsked, PresentAsked, FittingIn, TablesOf, Tables};
 use crate::Answer;
 use crate::inner::answer::answer_of;
+use crate::inner::sets::between;
 use crate::inner::sets::follow;
 use crate::inner::sets::image;
-use crate::inner::sets::through;
+use crate::inner::sets::lead;
 use coder::inner::bytes::byte;
 
-// The letter x where it fits at the present place, whose received letter is o: from the states of a set some run goes on with x and then
-// with the letters after it.
-fn fits_on<'a>(
-    next: &'a [u8; 256],
-    successors: &'a [u16; 1024],
-    letters: &'a [u16; 1024],
-    x: usize,
-    o: usize,
-    set: u16,
-    after: &[u8],
-) -> u16
-    requires { ⌜ TablesAsked (now next) (now successors) (now letters) × (x < 16) × (o < 64) × Letters 64 (now after) ⌝ }
-    ensures { λ r. ⌜ Holds (λ y. (y ≡ x) × FittingIn (now (next .entry)) (now (successors .entry)) (now (letters .entry)) (Has set) (o ∷ now (after .entry)) 0 x) r ⌝ }
-{
-    let to = through(next, letters, x, o, set);
-    if follow(successors, after, to) == 0 {
-        0
-    } else {
-        1u16 << x
-    }
-}
-
 // The letters that fit at the present place, whose received letter is o, from the states of a set.
-pub fn present<'a>(
+fn present<'a>(
     next: &'a [u8; 256],
-    successors: &'a [u16; 1024],
+    predecessors: &'a [u16; 1024],
     letters: &'a [u16; 1024],
     o: usize,
     set: u16,
     after: &[u8],
 ) -> u16
-    requires { ⌜ TablesAsked (now next) (now successors) (now letters) × (o < 64) × Letters 64 (now after) ⌝ }
-    ensures { λ r. ⌜ Holds (FittingIn (now (next .entry)) (now (successors .entry)) (now (letters .entry)) (Has set) (o ∷ now (after .entry)) 0) r ⌝ }
+    requires { ⌜ PresentAsked (now next) (now predecessors) (now letters) o (now after) ⌝ }
+    ensures { λ r. ⌜ ((successors : List ℕ) → TablesAsked (now (next .entry)) successors (now (predecessors .entry)) (now (letters .entry)) → Holds (FittingIn (now (next .entry)) successors (now (letters .entry)) (Has set) (o ∷ now (after .entry)) 0) r) ⌝ }
 {
-    let mut rest = image(letters, o, set);
     if after.len() == 0 {
-        return rest;
+        return image(letters, o, set);
     }
-    let mut fit = 0u16;
-    while rest != 0 {
-        let x = u16::trailing_zeros(rest) as usize;
-        fit = fit | fits_on(next, successors, letters, x, o, set, after);
-        rest = rest & (rest - 1);
-    }
-    fit
+    between(next, letters, o, set, lead(predecessors, after))
 }
 
 // The letters that fit at place b of a window.
 pub fn fitting<'a>(
     next: &'a [u8; 256],
     successors: &'a [u16; 1024],
+    predecessors: &'a [u16; 1024],
     letters: &'a [u16; 1024],
     starts: u16,
     window: &[u8],
     b: usize,
 ) -> u16
-    requires { ⌜ TablesAsked (now next) (now successors) (now letters) × Letters 64 (now window) × (b < length (now window)) ⌝ }
+    requires { ⌜ TablesAsked (now next) (now successors) (now predecessors) (now letters) × Letters 64 (now window) × (b < length (now window)) ⌝ }
     ensures { λ r. ⌜ Holds (FittingIn (now (next .entry)) (now (successors .entry)) (now (letters .entry)) (Has starts) (now (window .entry)) b) r ⌝ }
 {
     let set = follow(successors, &window[..b], starts);
     let o = byte(window, b);
     let after = b + 1;
-    present(next, successors, letters, o, set, &window[after..])
+    present(next, predecessors, letters, o, set, &window[after..])
 }
 
 // The answer for the letters of a window with b letters before the present one.
 pub fn decode<'a>(
     next: &'a [u8; 256],
     successors: &'a [u16; 1024],
+    predecessors: &'a [u16; 1024],
     letters: &'a [u16; 1024],
     starts: u16,
     window: &[u8],
     b: usize,
 ) -> Answer
-    requires { ⌜ Tables (now next) (now successors) (now letters) starts × Letters 64 (now window) × (b < length (now window)) ⌝ }
-    ensures { λ r. ⌜ ((c : Coder) → TablesOf c (now (next .entry)) (now (successors .entry)) (now (letters .entry)) starts → Right (settingOfCoder c) (now (window .entry)) b r) ⌝ }
+    requires { ⌜ Tables (now next) (now successors) (now predecessors) (now letters) starts × Letters 64 (now window) × (b < length (now window)) ⌝ }
+    ensures { λ r. ⌜ ((c : Coder) → TablesOf c (now (next .entry)) (now (successors .entry)) (now (predecessors .entry)) (now (letters .entry)) starts → Right (settingOfCoder c) (now (window .entry)) b r) ⌝ }
 {
-    answer_of(fitting(next, successors, letters, starts, window, b))
+    answer_of(fitting(next, successors, predecessors, letters, starts, window, b))
 }

@@ -34,10 +34,21 @@ part-present-end : tie.Need-part-present-end
 part-present-end c = search needs
 
 present-requires : tie.Need-present-requires
-present-requires c κs = let p = c .before .before .before .before .before in let w = now (p .args .window) in let k = p .args .b + 1 in let e = c .before .byte .ensures .0 in (p .pre .0, rw e (letter-at 64 w (p .pre .1) _ (p .pre .2)), letters-take 64 (length w - k) (drop k w) (letters-drop 64 k w (p .pre .1)))
+present-requires c κs =
+    let p = c .before .before .before .before .before in
+    let w = now (p .args .window) in
+    let k = p .args .b + 1 in
+    let e = c .before .byte .ensures .0 in
+    record {
+      next-high = p .pre .0 .next-high;
+      predecessors-words = p .pre .0 .predecessors-words;
+      letters-words = p .pre .0 .letters-words;
+      letter = rw e (letter-at 64 w (p .pre .1) _ (p .pre .2));
+      after-letters = letters-take 64 (length w - k) (drop k w) (letters-drop 64 k w (p .pre .1));
+    }
 
 returns : tie.Need-returns
-returns c = let p = c .before .before .before .before .before .before in let a = p .args in let w = now (a .window) in window-fits (now (a .next)) (now (a .successors)) (now (a .letters)) w (a .b) (a .starts) (p .pre .2) (c .before .before .byte .ensures .0) (c .before .before .before .follow .ensures) (rw (rest w (a .b)) at (c .present .ensures))
+returns c = let p = c .before .before .before .before .before .before in let a = p .args in let w = now (a .window) in window-fits (now (a .next)) (now (a .successors)) (now (a .letters)) w (a .b) (a .starts) (p .pre .2) (c .before .before .byte .ensures .0) (c .before .before .before .follow .ensures) (rw (rest w (a .b)) at (c .present .ensures (now (a .successors)) (p .pre .0)))
 
 pub fitting-spec : {M : Type 1} → statement M
 fitting-spec =
