@@ -30,7 +30,8 @@ returns c =
     let a = c .before .before .before .before .before .before .before in
     let e = a .from-checked .ensures in
     let r = known (a .before .before .before) in
-    file-judged e r (record { starts-are = c .before .before .before .before .before .before .start-states .ensures; conflicts-are = c .before .before .before .before .before .different-letters .ensures })
+    let d = c .before .before .before .before .before in
+    file-judged e r (record { starts-are = d .before .start-states .ensures; conflicts-are = d .different-letters .ensures })
     (c .valid .ensures (a .from-checked .result) (check-of e r))
 
 pub checked-spec : {M : Type 1} → statement M
