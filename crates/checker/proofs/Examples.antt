@@ -6,7 +6,7 @@ use Prim.Native.Nat.{ℕ}
 use native.Mathlib.Omega.{arith}
 use Rattle.mealy.specs.LoopedPair.{LoopedPair, first, second, inputsOf, Valid}
 use Rattle.coder.specs.Refusal.{allBelow}
-use Rattle.coder.specs.File.{within, inRange, entryInRange, headerRefusal, fileRefusal, entryOf, machineOf, settingOf}
+use Rattle.coder.specs.File.{within, inRange, entryInRange, entriesRefusal, fileRefusal, entryOf, machineOf, settingOf}
 use Rattle.coder.proofs.Refusals.{letters-below}
 use Rattle.coder.proofs.Refusals.{upon-done}
 use Rattle.values.specs.Pair.{pairOf, loopedPair}
@@ -20,7 +20,7 @@ abbrev fileC : List ℕ
 fileC = 1 ∷ 0 ∷ 7 ∷ 1 ∷ 2 ∷ 1 ∷ 0 ∷ 0 ∷ 0 ∷ 0 ∷ []
 
 C-accepted : fileRefusal fileC ≡ 0
-unfolding fileRefusal headerRefusal inRange within entryInRange allBelow
+unfolding fileRefusal entriesRefusal inRange within entryInRange allBelow
 C-accepted = refl
 
 not-valid :

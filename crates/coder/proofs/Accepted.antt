@@ -5,12 +5,12 @@ use mathlib.Core.List.{List}
 use Prim.Native.Nat.{ℕ, _+_, _-_, _*_, _≤_, _<_}
 use native.Mathlib.Nat.{mul-le-mul}
 use native.Mathlib.Omega.{arith}
-use lib.ListN.{length, getD}
+use lib.ListN.{length, getD, length-drop}
 use lib.Dec.{lit<, ltb, eqb}
-use borrow.Author.Tests.{leb-true, ltb-true, ltb-false, eqb-true}
+use borrow.Author.Tests.{leb-true, ltb-true, ltb-false, eqb-true, le-ltb, eq-eqb}
 use Rattle.coder.specs.Refusal.{refuse, allBelow}
-use Rattle.coder.specs.File.{versionOf, countField, statesOf, inputsOf, outputsOf, within, inRange, entryInRange, headerRefusal, fileRefusal}
-use Rattle.coder.proofs.Refusals.{both-true, refuse-none, refuse-not, first-none, all-at}
+use Rattle.coder.specs.File.{versionOf, countField, statesOf, inputsOf, outputsOf, entriesOf, within, inRange, entryInRange, entriesRefusal, fileRefusal}
+use Rattle.coder.proofs.Refusals.{both-true, refuse-none, refuse-not, all-at}
 
 pub record InLimits (n i o : ℕ) : Type 0 where
   pub states-low : 1 ≤ n
@@ -39,53 +39,80 @@ in-limits n i o e =
       entries-high = mul-le-mul (leb-true _ _ (x .1)) (leb-true _ _ (y .1));
     }
 
--- what refusals 1 to 5 leave of a file's length and counts
-pub record HeaderAccepted (len n i o : ℕ) : Type 0 where
-  pub size : len ≡ 6 + 2 * (n * i)
+-- what refusals 4 to 6 leave of counts and entries
+pub record EntriesAccepted (n i o : ℕ) (entries : List ℕ) : Type 0 where
   pub limits : InLimits n i o
+  pub size : length entries ≡ 2 * (n * i)
+  pub next-state : (j : ℕ) → j < n * i → getD entries (2 * j) 0 < n
+  pub output-letter : (j : ℕ) → j < n * i → getD entries (2 * j + 1) 0 < o
 
-file-size :
-    {len count : ℕ} (entries : ℕ) → 6 ≤ len → count ≡ len - 3 → count ≡ 3 + 2 * entries → len ≡ 6 + 2 * entries
-file-size entries a b d = omega arith
-
-pub header-accepted :
-    (len version count n i o : ℕ) → headerRefusal len version count n i o ≡ 0 → HeaderAccepted len n i o
-unfolding headerRefusal
-header-accepted len version count n i o e =
-    let b = refuse-none (ltb len 6) _ _ (lit< tt) e in
-    let v = refuse-not (eqb version 1) _ _ (lit< tt) (b .1) in
-    let k = refuse-not (eqb count (len - 3)) _ _ (lit< tt) (v .1) in
-    let r = refuse-not (inRange n i o) _ _ (lit< tt) (k .1) in
-    let w = refuse-not (eqb count (3 + 2 * (n * i))) _ _ (lit< tt) (r .1) in
+pub entries-accepted : (n i o : ℕ) (entries : List ℕ) → entriesRefusal n i o entries ≡ 0 → EntriesAccepted n i o entries
+unfolding entriesRefusal entryInRange
+entries-accepted n i o entries e =
+    let r = refuse-not (inRange n i o) _ _ (lit< tt) e in
+    let w = refuse-not (eqb (length entries) (2 * (n * i))) _ _ (lit< tt) (r .1) in
+    let t = refuse-not (allBelow (n * i) (entryInRange n o entries)) _ _ (lit< tt) (w .1) in
+    let all = all-at (n * i) (entryInRange n o entries) (t .0) in
+    let next : ℕ → Bool = λ j. ltb (getD entries (2 * j) 0) n in
+    let out : ℕ → Bool = λ j. ltb (getD entries (2 * j + 1) 0) o in
     record {
-      size = file-size (n * i) (ltb-false _ _ (b .0)) (eqb-true _ _ (k .0)) (eqb-true _ _ (w .0));
       limits = in-limits _ _ _ (r .0);
-    }
-
--- the refusal of a file whose header is accepted, by the test of its entries
-pub entries-refusal :
-    (f : List ℕ) (n : ℕ) (t : Bool) →
-    headerRefusal (length f) (versionOf f) (countField f) (statesOf f) (inputsOf f) (outputsOf f) ≡ 0 →
-    n ≡ statesOf f * inputsOf f → t ≡ allBelow n (entryInRange f) → fileRefusal f ≡ refuse (not t) 6 0
-unfolding fileRefusal
-entries-refusal f n t h e q = rw (h, ← e, ← q)
-
-pub record Accepted (f : List ℕ) : Type 0 where
-  pub header : HeaderAccepted (length f) (statesOf f) (inputsOf f) (outputsOf f)
-  pub next-state : (j : ℕ) → j < statesOf f * inputsOf f → getD f (6 + 2 * j) 0 < statesOf f
-  pub output-letter : (j : ℕ) → j < statesOf f * inputsOf f → getD f (7 + 2 * j) 0 < outputsOf f
-
-pub accepted : (f : List ℕ) → fileRefusal f ≡ 0 → Accepted f
-unfolding fileRefusal entryInRange
-accepted f e =
-    let t = allBelow (statesOf f * inputsOf f) (entryInRange f) in
-    let h = headerRefusal (length f) (versionOf f) (countField f) (statesOf f) (inputsOf f) (outputsOf f) in
-    let a = first-none h (refuse (not t) 6 0) e in
-    let all = all-at (statesOf f * inputsOf f) (entryInRange f) (refuse-not t _ _ (lit< tt) (a .1) .0) in
-    let next : ℕ → Bool = λ j. ltb (getD f (6 + 2 * j) 0) (statesOf f) in
-    let out : ℕ → Bool = λ j. ltb (getD f (7 + 2 * j) 0) (outputsOf f) in
-    record {
-      header = header-accepted _ _ _ _ _ _ (a .0);
+      size = eqb-true _ _ (w .0);
       next-state = λ j l. ltb-true _ _ (both-true (next j) (out j) (all j l) .0);
       output-letter = λ j l. ltb-true _ _ (both-true (next j) (out j) (all j l) .1);
+    }
+
+-- the refusal of counts and entries by the test of the entries, where refusals 4 and 5 pass
+pub by-entries :
+    (n i o : ℕ) (entries : List ℕ) (t : Bool) → inRange n i o ≡ true → length entries ≡ 2 * (n * i) →
+    t ≡ allBelow (n * i) (entryInRange n o entries) → entriesRefusal n i o entries ≡ refuse (not t) 6 0
+unfolding entriesRefusal
+by-entries n i o entries t r l e = rw (r, eq-eqb (length entries) (2 * (n * i)) l, ← e)
+
+-- what refusals 1 to 6 leave of a file
+pub record Accepted (f : List ℕ) : Type 0 where
+  pub size : length f ≡ 6 + 2 * (statesOf f * inputsOf f)
+  pub version : versionOf f ≡ 1
+  pub count : countField f ≡ 3 + length (entriesOf f)
+  pub entries : EntriesAccepted (statesOf f) (inputsOf f) (outputsOf f) (entriesOf f)
+
+-- the refusal of a file that refusals 1 to 3 pass
+pub by-rest :
+    (f : List ℕ) → 6 ≤ length f → versionOf f ≡ 1 → countField f ≡ length f - 3 →
+    fileRefusal f ≡ entriesRefusal (statesOf f) (inputsOf f) (outputsOf f) (entriesOf f)
+unfolding fileRefusal
+by-rest f l v k = rw (le-ltb (length f) 6 l, eq-eqb (versionOf f) 1 v, eq-eqb (countField f) (length f - 3) k)
+
+-- the tests that an accepted file has passed
+record Passed (f : List ℕ) : Type 0 where
+  long : 6 ≤ length f
+  version : versionOf f ≡ 1
+  count : countField f ≡ length f - 3
+  entries : entriesRefusal (statesOf f) (inputsOf f) (outputsOf f) (entriesOf f) ≡ 0
+
+passed : (f : List ℕ) → fileRefusal f ≡ 0 → Passed f
+unfolding fileRefusal
+passed f e =
+    let b = refuse-none (ltb (length f) 6) _ _ (lit< tt) e in
+    let v = refuse-not (eqb (versionOf f) 1) _ _ (lit< tt) (b .1) in
+    let k = refuse-not (eqb (countField f) (length f - 3)) _ _ (lit< tt) (v .1) in
+    record {
+      long = ltb-false _ _ (b .0);
+      version = eqb-true _ _ (v .0);
+      count = eqb-true _ _ (k .0);
+      entries = k .1;
+    }
+
+pub file-entries : (f : List ℕ) → fileRefusal f ≡ 0 → entriesRefusal (statesOf f) (inputsOf f) (outputsOf f) (entriesOf f) ≡ 0
+file-entries f e = passed f e .entries
+
+pub accepted : (f : List ℕ) → fileRefusal f ≡ 0 → Accepted f
+accepted f e =
+    let p = passed f e in
+    let a = entries-accepted _ _ _ _ (p .entries) in
+    record {
+      size = omega (arith, a .size, length-drop 6 f);
+      version = p .version;
+      count = omega (arith, p .count, length-drop 6 f);
+      entries = a;
     }

@@ -4,7 +4,7 @@ use mathlib.Core.Path.{_≡_, refl}
 use mathlib.Core.List.{List, [], _∷_}
 use Prim.Native.Nat.{ℕ}
 use Rattle.coder.specs.Refusal.{allBelow}
-use Rattle.coder.specs.File.{within, inRange, entryInRange, headerRefusal, fileRefusal, headerOf, partOf, entryOf, machineOf}
+use Rattle.coder.specs.File.{within, inRange, entryInRange, entriesRefusal, fileRefusal, headerOf, partOf, entryOf, machineOf}
 use Rattle.coder.specs.Run.{runRefusal, runRefusalIn, RunPromise}
 use Rattle.coder.specs.declared.Header.the-variants.{Counts}
 use Rattle.coder.specs.declared.RunResult.the-variants.{Refused, Done}
@@ -15,7 +15,7 @@ abbrev fileA : List ℕ
 fileA = 1 ∷ 0 ∷ 11 ∷ 2 ∷ 2 ∷ 2 ∷ 0 ∷ 0 ∷ 1 ∷ 1 ∷ 1 ∷ 1 ∷ 0 ∷ 0 ∷ []
 
 A-accepted : fileRefusal fileA ≡ 0
-unfolding fileRefusal headerRefusal inRange within entryInRange allBelow
+unfolding fileRefusal entriesRefusal inRange within entryInRange allBelow
 A-accepted = refl
 
 pub A-is-accepted : Accepted fileA

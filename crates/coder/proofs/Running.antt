@@ -97,7 +97,7 @@ module _ {c : Coder} {f : List ℕ} (e : c ≡ coderOf f) where
   unfolding coderOf
   runnable {s} {xs} r l =
       let a = accepted f (r .file) in
-      let h = a .header .limits in
+      let h = a .entries .limits in
       let p = r .state in
       rw e
       record {
@@ -114,11 +114,11 @@ module _ {c : Coder} {f : List ℕ} (e : c ≡ coderOf f) where
 
     next-same : tableAt (c .next) ≡ machineOf f .next
     unfolding coderOf machineOf
-    next-same = rw e (table-same f 6 a)
+    next-same = rw e (table-same (a .entries) 0)
 
     output-same : tableAt (c .output) ≡ machineOf f .out
     unfolding coderOf machineOf
-    output-same = rw e (table-same f 7 a)
+    output-same = rw e (table-same (a .entries) 1)
 
     pub ran-end : last ≡ end (machineOf f) s xs
     ran-end = r .ends ∙ end-agree M (machineOf f) next-same output-same s xs

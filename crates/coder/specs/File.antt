@@ -1,22 +1,23 @@
 -- The coder file: what refuses it, and what an accepted one says (document 01, "Coder file").
 use Prim.Native.Nat.{ℕ, _+_, _*_, _-_}
 use mathlib.Core.Bool.{Bool, not, _&&_, cond}
-use mathlib.Core.List.{List, []}
+use mathlib.Core.List.{List, [], _∷_, _++_}
 use lib.ListN.{length, getD, drop}
 use lib.Dec.{ltb, leb, eqb}
 use Rattle.mealy.specs.Machine.{Machine}
 use Rattle.mealy.specs.Setting.{Setting, anyState}
-use Rattle.coder.specs.Refusal.{refuse, first, answer, allBelow}
+use Rattle.coder.specs.Refusal.{refuse, answer, allBelow}
 use Rattle.coder.specs.Limits.{maxStates, maxInputs, maxOutputs}
+use Rattle.coder.specs.BigEndian.{bigEndian, fromBigEndian}
 use Rattle.coder.specs.declared.Header.{Header}
 use Rattle.coder.specs.declared.Header.the-variants.{Refused, Counts}
 
--- Byte 0, bytes 1 and 2 (big-endian), and bytes 3 to 5.
+-- Byte 0, bytes 1 and 2, bytes 3 to 5, and the bytes from byte 6 on.
 abbrev pub versionOf : List ℕ → ℕ
 versionOf f = getD f 0 0
 
 abbrev pub countField : List ℕ → ℕ
-countField f = getD f 1 0 * 256 + getD f 2 0
+countField f = fromBigEndian (getD f 1 0 ∷ getD f 2 0 ∷ [])
 
 abbrev pub statesOf : List ℕ → ℕ
 statesOf f = getD f 3 0
@@ -27,6 +28,13 @@ inputsOf f = getD f 4 0
 abbrev pub outputsOf : List ℕ → ℕ
 outputsOf f = getD f 5 0
 
+abbrev pub entriesOf : List ℕ → List ℕ
+entriesOf f = drop 6 f
+
+-- The file of three counts and entry bytes. Reading is its inverse (proofs/Inverse.antt).
+abbrev pub fileOf : ℕ → ℕ → ℕ → List ℕ → List ℕ
+fileOf n i o entries = 1 ∷ bigEndian 2 (3 + length entries) ++ (n ∷ i ∷ o ∷ entries)
+
 -- 1 to max
 unfoldable pub within : ℕ → ℕ → Bool
 within x max = leb 1 x && leb x max
@@ -35,42 +43,48 @@ within x max = leb 1 x && leb x max
 unfoldable pub inRange : ℕ → ℕ → ℕ → Bool
 inRange n i o = within n maxStates && (within i maxInputs && within o maxOutputs)
 
--- Refusal 6's test of entry j, counted over all states: its next state and its output letter, bytes 6 + 2 j and 7 + 2 j.
-unfoldable pub entryInRange : List ℕ → ℕ → Bool
-entryInRange f j = ltb (getD f (6 + 2 * j) 0) (statesOf f) && ltb (getD f (7 + 2 * j) 0) (outputsOf f)
+-- Refusal 6's test of entry j, counted over all states: its next state and its output letter.
+unfoldable pub entryInRange : ℕ → ℕ → List ℕ → ℕ → Bool
+entryInRange n o entries j = ltb (getD entries (2 * j) 0) n && ltb (getD entries (2 * j + 1) 0) o
 
--- Refusals 1 to 5, by the file's length, version, count field, N, I and O.
-unfoldable pub headerRefusal : ℕ → ℕ → ℕ → ℕ → ℕ → ℕ → ℕ
-headerRefusal len version count n i o =
-    refuse (ltb len 6) 1
-    (refuse (not (eqb version 1)) 2
-    (refuse (not (eqb count (len - 3))) 3
-    (refuse (not (inRange n i o)) 4
-    (refuse (not (eqb count (3 + 2 * (n * i)))) 5
-    0))))
+-- Refusals 4 to 6, of N, I, O and the entry bytes. Document 01 has refusal 5 of the count field, which is to be 3 + 2 × N × I: past
+-- refusal 3 that field is the number of bytes after byte 2, so 3 more than the number of entry bytes.
+unfoldable pub entriesRefusal : ℕ → ℕ → ℕ → List ℕ → ℕ
+entriesRefusal n i o entries =
+    refuse (not (inRange n i o)) 4
+    (refuse (not (eqb (length entries) (2 * (n * i)))) 5
+    (refuse (not (allBelow (n * i) (entryInRange n o entries))) 6
+    0))
 
 -- Refusals 1 to 6: document 01's list as far as it concerns the coder file. A file is accepted where this is 0.
 unfoldable pub fileRefusal : List ℕ → ℕ
 fileRefusal f =
-    first (headerRefusal (length f) (versionOf f) (countField f) (statesOf f) (inputsOf f) (outputsOf f))
-    (refuse (not (allBelow (statesOf f * inputsOf f) (entryInRange f))) 6 0)
+    refuse (ltb (length f) 6) 1
+    (refuse (not (eqb (versionOf f) 1)) 2
+    (refuse (not (eqb (countField f) (length f - 3))) 3
+    (entriesRefusal (statesOf f) (inputsOf f) (outputsOf f) (entriesOf f))))
 
 -- The reader's first call: the counts, or the refusal.
 abbrev pub headerOf : List ℕ → Header
 headerOf f = answer (fileRefusal f) (λ k. Refused k) (Counts (statesOf f) (inputsOf f) (outputsOf f))
 
--- The reader's second call: the file from byte 6 on, or an empty part.
+-- The reader's second call: the entries, or an empty part.
 abbrev pub partOf : List ℕ → List ℕ
-partOf f = answer (fileRefusal f) (λ k. []) (drop 6 f)
+partOf f = answer (fileRefusal f) (λ k. []) (entriesOf f)
 
--- A byte of the entry of state s and input letter i, state by state and within a state input by input: the next state from
--- byte 6 on, the output letter from byte 7 on. 0 where there is no such entry.
-unfoldable pub entryOf : List ℕ → ℕ → ℕ → ℕ → ℕ
-entryOf f base s i = cond (ltb s (statesOf f) && ltb i (inputsOf f)) (getD f (base + 2 * (inputsOf f * s + i)) 0) 0
+-- A byte of the entry of state s and input letter x, of N states and I input letters, state by state and within a state input by
+-- input: offset 0 has the next state, offset 1 the output letter. 0 where there is no such entry.
+unfoldable pub entryOf : ℕ → ℕ → List ℕ → ℕ → ℕ → ℕ → ℕ
+entryOf n i entries offset s x = cond (ltb s n && ltb x i) (getD entries (2 * (i * s + x) + offset) 0) 0
+
+-- The Mealy machine of N states, I input letters and their entries.
+abbrev pub machineOfEntries : ℕ → ℕ → List ℕ → Machine
+machineOfEntries n i entries =
+    record { states = n; inputs = i; next = entryOf n i entries 0; out = entryOf n i entries 1 }
 
 -- The Mealy machine of an accepted file.
 unfoldable pub machineOf : List ℕ → Machine
-machineOf f = record { states = statesOf f; inputs = inputsOf f; next = entryOf f 6; out = entryOf f 7 }
+machineOf f = machineOfEntries (statesOf f) (inputsOf f) (entriesOf f)
 
 -- Its setting: a run may start in any state, and different letters are to be told apart.
 abbrev pub settingOf : List ℕ → Setting

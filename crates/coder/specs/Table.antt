@@ -1,12 +1,13 @@
 -- The coder as the two tables that the code works on.
+use mathlib.Core.Path.{_≡_}
 use mathlib.Core.Bool.{cond}
 use Prim.Native.Nat.{ℕ, zero, suc, _*_, _+_, _/_, _%_, _<_, _≤_}
 use mathlib.Core.List.{List, [], _∷_}
-use lib.ListN.{getD}
+use lib.ListN.{length, getD}
 use lib.Dec.{ltb}
 use Rattle.mealy.specs.Machine.{Machine}
 use Rattle.coder.specs.Limits.{maxStates, maxInputs, maxOutputs, maxSide}
-use Rattle.coder.specs.File.{statesOf, inputsOf, outputsOf, entryOf}
+use Rattle.coder.specs.File.{statesOf, inputsOf, outputsOf, entriesOf, entryOf}
 use Rattle.coder.specs.declared.inner.tables.Coder.{Coder}
 use Rattle.coder.specs.declared.inner.tables.Limits.{Limits}
 
@@ -19,14 +20,25 @@ table (suc n) p = p 0 ∷ table n (λ k. p (suc k))
 abbrev pub limitsOf : Limits
 limitsOf = record { states = maxStates; inputs = maxInputs; outputs = maxOutputs; side = maxSide }
 
--- A table of a file: the entry of state s and letter i stands at 16 s + i, and the other places hold 0.
-abbrev pub tableOf : List ℕ → ℕ → List ℕ
-tableOf f base = table 256 (λ k. entryOf f base (k / 16) (k % 16))
+-- A table of entries: the entry of state s and letter x stands at 16 s + x, and the other places hold 0. Offset 0 has the next
+-- states, offset 1 the output letters.
+abbrev pub tableOf : ℕ → ℕ → List ℕ → ℕ → List ℕ
+tableOf n i entries offset = table 256 (λ k. entryOf n i entries offset (k / 16) (k % 16))
 
--- The tables of an accepted file, with its counts (document 01, "How to write each place", first line).
+-- what the code of a table asks
+pub record Tabled (n i : ℕ) (entries : List ℕ) (offset : ℕ) : Type 0 where
+  pub states-high : n ≤ maxStates
+  pub size : length entries ≡ 2 * (n * i)
+  pub offset-low : offset < 2
+
+-- The tables of counts and entries that no refusal applies to (document 01, "How to write each place", first line).
+abbrev pub coderOfEntries : ℕ → ℕ → ℕ → List ℕ → Coder
+coderOfEntries n i o entries =
+    record { states = n; inputs = i; outputs = o; next = tableOf n i entries 0; output = tableOf n i entries 1 }
+
+-- The coder of an accepted file.
 unfoldable pub coderOf : List ℕ → Coder
-coderOf f =
-    record { states = statesOf f; inputs = inputsOf f; outputs = outputsOf f; next = tableOf f 6; output = tableOf f 7 }
+coderOf f = coderOfEntries (statesOf f) (inputsOf f) (outputsOf f) (entriesOf f)
 
 -- what a table holds for state s and letter i; 0 where it has no such place
 unfoldable pub tableAt : List ℕ → ℕ → ℕ → ℕ

@@ -44,7 +44,7 @@ pub fn entries(file: &[u8]) -> &[u8]
     if k != 0 {
         return &file[..0];
     }
-    &file[6..]
+    inner::file::entries(file)
 }
 
 // Runs the coder from a start state: writes an output letter for each input letter. Refusals 1 to 6, 7, 11, 12.

@@ -73,7 +73,7 @@ pub file-right :
 unfolding machineOf
 file-right f z w b l =
     let a = accepted f z in
-    all-flags (machineOf f) (a .header .limits .states-high) w b (decoded (coderOf f) anyFlags w b)
+    all-flags (machineOf f) (a .entries .limits .states-high) w b (decoded (coderOf f) anyFlags w b)
     (subst (λ M. Right (flagged M anyFlags) w b (decoded (coderOf f) anyFlags w b)) (machine-same f a)
     (decoded-right (coderOf f) (sound-coder f a) anyFlags w b l))
 

@@ -10,7 +10,7 @@ use lib.Dec.{leb}
 use lib.Count.{leadingZeros}
 use Rattle.mealy.specs.Answer.{byteOf}
 use Rattle.coder.specs.Refusal.{allBelow}
-use Rattle.coder.specs.File.{within, inRange, entryInRange, headerRefusal, fileRefusal, outputsOf, entryOf}
+use Rattle.coder.specs.File.{within, inRange, entryInRange, entriesRefusal, fileRefusal, outputsOf, entryOf}
 use Rattle.coder.specs.Table.{table, coderOf}
 use Rattle.chains.specs.Chain.{isEntry, hasKey, over}
 use Rattle.pass.specs.Answer.{meaning, Right}
@@ -78,7 +78,7 @@ abbrev fileA : List ℕ
 fileA = 1 ∷ 0 ∷ 11 ∷ 2 ∷ 2 ∷ 2 ∷ 0 ∷ 0 ∷ 1 ∷ 1 ∷ 1 ∷ 1 ∷ 0 ∷ 0 ∷ []
 
 A-accepted : fileRefusal fileA ≡ 0
-unfolding fileRefusal headerRefusal inRange within entryInRange allBelow
+unfolding fileRefusal entriesRefusal inRange within entryInRange allBelow
 A-accepted = refl
 
 -- a buffer of five bytes, of which the last stays
@@ -93,7 +93,7 @@ abbrev fileD : List ℕ
 fileD = 1 ∷ 0 ∷ 11 ∷ 2 ∷ 2 ∷ 2 ∷ 0 ∷ 0 ∷ 1 ∷ 0 ∷ 0 ∷ 1 ∷ 1 ∷ 1 ∷ []
 
 D-accepted : fileRefusal fileD ≡ 0
-unfolding fileRefusal headerRefusal inRange within entryInRange allBelow
+unfolding fileRefusal entriesRefusal inRange within entryInRange allBelow
 D-accepted = refl
 
 pub D-table : TablePromise fileD (window 0 1) (9 ∷ 9 ∷ 9 ∷ 9 ∷ []) (Done 4) (0 ∷ 1 ∷ 0 ∷ 1 ∷ [])
@@ -108,7 +108,7 @@ fileG =
     1 ∷ 0 ∷ 19 ∷ 4 ∷ 2 ∷ 6 ∷ 1 ∷ 4 ∷ 1 ∷ 5 ∷ 2 ∷ 0 ∷ 3 ∷ 0 ∷ 2 ∷ 0 ∷ 2 ∷ 1 ∷ 3 ∷ 2 ∷ 3 ∷ 3 ∷ []
 
 G-accepted : fileRefusal fileG ≡ 0
-unfolding fileRefusal headerRefusal inRange within entryInRange allBelow
+unfolding fileRefusal entriesRefusal inRange within entryInRange allBelow
 G-accepted = refl
 
 pub G-letter-0 : WindowPromise fileG (window 0 1) (0 ∷ 0 ∷ []) (Answered (Letter 0))

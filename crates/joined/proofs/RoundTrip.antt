@@ -107,7 +107,7 @@ module _ (f : List ℕ) (s : ℕ) (xs : List ℕ) (file-ok : fileRefusal f ≡ 0
       let o = outs (machineOf f) s xs in
       let v = window (w .before) (w .after) in
       let report = window-report f letters letters′ w q in
-      let high : pairs (machineOf f .states) ≤ maxSide = rw states-are (pairs-high (statesOf f) (a .header .limits .states-high)) in
+      let high : pairs (machineOf f .states) ≤ maxSide = rw states-are (pairs-high (statesOf f) (a .entries .limits .states-high)) in
       let d′ : StringPromise f v o before₃ r₃ after₃ = rw (wrote before₁ after₁ r₁ l p) at d in
       let long : length o ≡ length xs = length-outs (machineOf f) s xs in
       let z : stringRefusalIn f v o (length before₃) true ≡ 0 =

@@ -13,7 +13,7 @@ use Rattle.mealy.specs.Answer.{byteOf}
 use Rattle.mealy.proofs.Plain.{any-closed}
 use Rattle.mealy.proofs.LoopedPairs.{excludes}
 use Rattle.coder.specs.Refusal.{allBelow}
-use Rattle.coder.specs.File.{within, inRange, entryInRange, headerRefusal, fileRefusal, entryOf, outputsOf, machineOf, settingOf}
+use Rattle.coder.specs.File.{within, inRange, entryInRange, entriesRefusal, fileRefusal, entryOf, outputsOf, machineOf, settingOf}
 use Rattle.coder.specs.Table.{table, coderOf, tableAt}
 use Rattle.coder.proofs.Refusals.{true-false, both-true, all-at}
 use Rattle.coder.proofs.Accepted.{accepted}
@@ -123,7 +123,7 @@ cases-hold (c ∷ cs) e =
     (z, claims-hold (c .file) z (c .claims) (u .0), cases-hold cs (u .1))
 
 passed : testCases starred ≡ true
-unfolding test leastTest later worksTest agree allWords validTest closesTest differentTest allBelow fileRefusal headerRefusal inRange within entryInRange machineOf entryOf coderOf table tableAt decoded pass added add given union unionOf answerOf leadingZeros hasKey isEntry over windowAt
+unfolding test leastTest later worksTest agree allWords validTest closesTest differentTest allBelow fileRefusal entriesRefusal inRange within entryInRange machineOf entryOf coderOf table tableAt decoded pass added add given union unionOf answerOf leadingZeros hasKey isEntry over windowAt
 passed = refl
 
 -- every starred case: its file is accepted, and all that is claimed of it holds

@@ -8,8 +8,8 @@ use lib.ListN.{length}
 use lib.Dec.{ltb, leb, eqb}
 use borrow.Author.Tests.{le-leb}
 use Rattle.mealy.specs.Product.{pairs}
-use Rattle.coder.specs.Refusal.{refuse, first, answer, allBelow}
-use Rattle.coder.specs.File.{versionOf, countField, inRange, entryInRange, headerRefusal, fileRefusal, headerOf, statesOf, inputsOf, outputsOf, machineOf, settingOf}
+use Rattle.coder.specs.Refusal.{refuse, answer, allBelow}
+use Rattle.coder.specs.File.{versionOf, countField, inRange, entryInRange, entriesRefusal, fileRefusal, headerOf, statesOf, inputsOf, outputsOf, entriesOf, machineOf, settingOf}
 use Rattle.coder.specs.declared.Header.{Header}
 use Rattle.coder.specs.declared.Header.the-variants.{Refused, Counts}
 use Rattle.coder.proofs.Refusals.{upon-refused, upon-done}
@@ -36,25 +36,20 @@ refuse-small : (t : Bool) (k x : ℕ) → k ≤ 6 → x ≤ 6 → refuse t k x �
 refuse-small true k x l m = l
 refuse-small false k x l m = m
 
-first-small : (a b : ℕ) → a ≤ 6 → b ≤ 6 → first a b ≤ 6
-first-small zero b l m = m
-first-small (suc a) b l m = l
-
-header-small : (len version count n i o : ℕ) → headerRefusal len version count n i o ≤ 6
-unfolding headerRefusal
-header-small len version count n i o =
-    refuse-small (ltb len 6) 1 _ (omega arith)
-    (refuse-small (not (eqb version 1)) 2 _ (omega arith)
-    (refuse-small (not (eqb count (len - 3))) 3 _ (omega arith)
-    (refuse-small (not (inRange n i o)) 4 _ (omega arith)
-    (refuse-small (not (eqb count (3 + 2 * (n * i)))) 5 0 (omega arith) (omega arith)))))
+entries-small : (n i o : ℕ) (entries : List ℕ) → entriesRefusal n i o entries ≤ 6
+unfolding entriesRefusal
+entries-small n i o entries =
+    refuse-small (not (inRange n i o)) 4 _ (omega arith)
+    (refuse-small (not (eqb (length entries) (2 * (n * i)))) 5 _ (omega arith)
+    (refuse-small (not (allBelow (n * i) (entryInRange n o entries))) 6 0 (omega arith) (omega arith)))
 
 pub refusal-small : (f : List ℕ) → fileRefusal f ≤ 6
 unfolding fileRefusal
 refusal-small f =
-    first-small (headerRefusal (length f) (versionOf f) (countField f) (statesOf f) (inputsOf f) (outputsOf f)) _
-    (header-small (length f) (versionOf f) (countField f) (statesOf f) (inputsOf f) (outputsOf f))
-    (refuse-small (not (allBelow (statesOf f * inputsOf f) (entryInRange f))) 6 0 (omega arith) (omega arith))
+    refuse-small (ltb (length f) 6) 1 _ (omega arith)
+    (refuse-small (not (eqb (versionOf f) 1)) 2 _ (omega arith)
+    (refuse-small (not (eqb (countField f) (length f - 3))) 3 _ (omega arith)
+    (entries-small (statesOf f) (inputsOf f) (outputsOf f) (entriesOf f))))
 
 pub record HeaderRefused (f : List ℕ) (k : ℕ) : Type 0 where
   pub by : k ≡ fileRefusal f
@@ -91,7 +86,7 @@ pub counts-short :
     (f : List ℕ) {h : Header} {n i o : ℕ} → h ≡ headerOf f → h ≡ Counts n i o → (n < 1000) × (i < 1000) × (o < 1000)
 counts-short f e d =
     let c = header-counts f e d in
-    let l = accepted f (c .none) .header .limits in
+    let l = accepted f (c .none) .entries .limits in
     (omega (arith, c .states, l .states-high), omega (arith, c .inputs, l .inputs-high), omega (arith, c .outputs, l .outputs-high))
 
 -- ---- the report
@@ -160,7 +155,7 @@ module _ (f before after : List ℕ) (ok : fileRefusal f ≡ 0) (long : wanted �
       {r : SearchResult} {v : Verdict} {w : Window} → SearchPromise f before r after → r ≡ Found v → v ≡ Least w →
       (w .before < 1000) × (w .after < 1000)
   window-short p e d =
-      let high : pairs (machineOf f .states) ≤ 136 = rw states-are (pairs-high (statesOf f) (accepted f ok .header .limits .states-high)) in
+      let high : pairs (machineOf f .states) ≤ 136 = rw states-are (pairs-high (statesOf f) (accepted f ok .entries .limits .states-high)) in
       let w = window-found p e d in
       (omega (arith, w .before-small), omega (arith, w .after-small))
 

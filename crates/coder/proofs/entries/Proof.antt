@@ -1,14 +1,11 @@
 -- `entries` meets its contract: nothing of a refused file, and an accepted file from byte 6 on.
 use mathlib.Core.Path.{_≡_}
-use Prim.Native.Nat.{_-_}
 use native.Mathlib.Omega.{arith}
-use lib.Seq.{take-all}
-use lib.ListN.{length, drop, length-drop}
 use borrow.Author.Needs.{needs}
 use denote.Ref.{now}
 use Rattle.coder.specs.File.{fileRefusal}
-use Rattle.coder.proofs.Refusals.{refused-answer, via}
 use Rattle.coder.proofs.Accepted.{accepted}
+use Rattle.coder.proofs.Refusals.{refused-answer, via}
 use Rattle.coder.proofs.entries.Statement.{statement}
 use Rattle.coder.proofs.entries.Tie as tie
 
@@ -24,28 +21,12 @@ returns c = refused-answer _ _ _ (c .before .before .refusal .ensures) (c .befor
 not-refused : (c : tie.Else1) → fileRefusal (now (c .before .before .before .args .file)) ≡ 0
 not-refused c = via (c .before .refusal .ensures) (c .if1 .left)
 
-sub-result : tie.Need-sub-result
-sub-result c = omega (arith, accepted _ (not-refused c))
-
-part-result-start : tie.Need-part-result-start
-part-result-start c = omega (arith, accepted _ (not-refused c))
-
-part-result-end : tie.Need-part-result-end
-part-result-end c = search needs
+entries-requires : tie.Need-entries-requires
+entries-requires c κs = omega (arith, accepted _ (not-refused c))
 
 returns-2 : tie.Need-returns-2
-returns-2 c =
-    let f = now (c .before .before .before .before .args .file) in
-    simp (not-refused (c .before)) (take-all (length f - 6) (drop 6 f) (omega (arith, length-drop 6 f)))
+returns-2 c = rw (not-refused (c .before)) (c .entries .ensures)
 
 pub entries-spec : {M : Type 1} → statement M
 entries-spec =
-    tie.close
-    (tie.spec
-    refusal-requires
-    slice-aggregate-result
-    returns
-    sub-result
-    part-result-start
-    part-result-end
-    returns-2)
+    tie.close (tie.spec refusal-requires slice-aggregate-result returns entries-requires returns-2)

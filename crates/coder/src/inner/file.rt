@@ -1,9 +1,9 @@
-// Refusals 1 to 6 of a coder file.
+// Refusals 1 to 6 of a coder file, and the part of it that holds the entries.
 ghost use mathlib.Core.Path.{_≡_};
 ghost use Prim.Native.Nat.{_+_, _*_, _<_, _≤_};
 ghost use lib.ListN.{length};
 ghost use Rattle.coder.specs.Refusal.{allBelow};
-ghost use Rattle.coder.specs.File.{within, inRange, entryInRange, headerRefusal, versionOf, countField, statesOf, inputsOf, outputsOf, fileRefusal};
+ghost use Rattle.coder.specs.File.{within, inRange, entryInRange, entriesRefusal, countField, entriesOf, fileRefusal};
 use crate::inner::bytes::byte;
 use crate::inner::tables::Coder;
 
@@ -29,75 +29,26 @@ fn in_range(states: usize, inputs: usize, outputs: usize) -> bool
     false
 }
 
-// Refusals 2 to 5 of a file of at least 6 bytes, or 0.
-fn counts_refusal(
-    len: usize,
-    version: usize,
-    count: usize,
-    states: usize,
-    inputs: usize,
-    outputs: usize,
-) -> usize
-    requires { ⌜ 6 ≤ len ⌝ }
-    ensures { λ r. ⌜ r ≡ headerRefusal len version count states inputs outputs ⌝ }
-{
-    if version != 1 {
-        return 2;
-    }
-    let rest = len - 3;
-    if count != rest {
-        return 3;
-    }
-    if in_range(states, inputs, outputs) {
-        let entries = states * inputs;
-        let want = 3 + 2 * entries;
-        if count != want {
-            return 5;
-        }
-        return 0;
-    }
-    4
-}
-
-// Refusals 1 to 5, or 0.
-fn header_refusal(file: &[u8]) -> usize
-    ensures { λ r. ⌜ r ≡ headerRefusal (length (now (file .entry))) (versionOf (now (file .entry))) (countField (now (file .entry))) (statesOf (now (file .entry))) (inputsOf (now (file .entry))) (outputsOf (now (file .entry))) ⌝ }
-{
-    let len = file.len();
-    if len < 6 {
-        return 1;
-    }
-    let count = byte(file, 1) * 256 + byte(file, 2);
-    counts_refusal(
-        len,
-        byte(file, 0),
-        count,
-        byte(file, 3),
-        byte(file, 4),
-        byte(file, 5),
-    )
-}
-
 // Whether entry j has its next state and its output letter in range.
-fn entry_in_range(file: &[u8], j: usize) -> bool
-    requires { ⌜ 7 + 2 * j < length (now file) ⌝ }
-    ensures { λ r. ⌜ r ≡ entryInRange (now (file .entry)) j ⌝ }
+fn entry_in_range(states: usize, outputs: usize, entries: &[u8], j: usize) -> bool
+    requires { ⌜ 2 * j + 1 < length (now entries) ⌝ }
+    ensures { λ r. ⌜ r ≡ entryInRange states outputs (now (entries .entry)) j ⌝ }
 {
-    if byte(file, 6 + 2 * j) < byte(file, 3) {
-        byte(file, 7 + 2 * j) < byte(file, 5)
+    if byte(entries, 2 * j) < states {
+        byte(entries, 2 * j + 1) < outputs
     } else {
         false
     }
 }
 
 // Whether the first n entries are in range.
-fn entries_in_range(file: &[u8], n: usize) -> bool
-    requires { ⌜ 6 + 2 * n ≤ length (now file) ⌝ }
-    ensures { λ r. ⌜ r ≡ allBelow n (entryInRange (now (file .entry))) ⌝ }
+fn entries_in_range(states: usize, outputs: usize, entries: &[u8], n: usize) -> bool
+    requires { ⌜ 2 * n ≤ length (now entries) ⌝ }
+    ensures { λ r. ⌜ r ≡ allBelow n (entryInRange states outputs (now (entries .entry))) ⌝ }
 {
     let mut j = 0;
     while j < n {
-        if entry_in_range(file, j) {
+        if entry_in_range(states, outputs, entries, j) {
             j += 1;
         } else {
             return false;
@@ -106,14 +57,52 @@ fn entries_in_range(file: &[u8], n: usize) -> bool
     true
 }
 
+// Refusals 4 to 6 of three counts and entry bytes, or 0.
+pub fn entries_refusal(states: usize, inputs: usize, outputs: usize, entries: &[u8]) -> usize
+    ensures { λ r. ⌜ r ≡ entriesRefusal states inputs outputs (now (entries .entry)) ⌝ }
+{
+    if in_range(states, inputs, outputs) {
+        let n = states * inputs;
+        if entries.len() != 2 * n {
+            return 5;
+        }
+        if entries_in_range(states, outputs, entries, n) {
+            return 0;
+        }
+        return 6;
+    }
+    4
+}
+
+// The entries: the part of the file from byte 6 on.
+pub fn entries(file: &[u8]) -> &[u8]
+    requires { ⌜ 6 ≤ length (now file) ⌝ }
+    ensures { λ r. ⌜ now r ≡ entriesOf (now (file .entry)) ⌝ }
+{
+    &file[6..]
+}
+
+// The number in bytes 1 and 2.
+fn count_field(file: &[u8]) -> usize
+    requires { ⌜ 6 ≤ length (now file) ⌝ }
+    ensures { λ r. ⌜ r ≡ countField (now (file .entry)) ⌝ }
+{
+    byte(file, 1) * 256 + byte(file, 2)
+}
+
 // Refusals 1 to 6, or 0.
 pub fn refusal(file: &[u8]) -> usize
     ensures { λ r. ⌜ r ≡ fileRefusal (now (file .entry)) ⌝ }
 {
-    let k = header_refusal(file);
-    if k != 0 {
-        return k;
+    let len = file.len();
+    if len < 6 {
+        return 1;
     }
-    let n = byte(file, 3) * byte(file, 4);
-    if entries_in_range(file, n) { 0 } else { 6 }
+    if byte(file, 0) != 1 {
+        return 2;
+    }
+    if count_field(file) != len - 3 {
+        return 3;
+    }
+    entries_refusal(byte(file, 3), byte(file, 4), byte(file, 5), entries(file))
 }

@@ -1,10 +1,12 @@
 // Coder: the counts and the two tables of a checked file, and the limits.
 ghost use mathlib.Core.Path.{_≡_};
-ghost use Prim.Native.Nat.{_<_, _≤_};
-ghost use Rattle.coder.specs.File.{fileRefusal, entryOf};
-ghost use Rattle.coder.specs.Table.{coderOf, tableOf, tableAt, limitsOf};
+ghost use Prim.Native.Nat.{_*_, _<_};
+ghost use lib.ListN.{length};
+ghost use Rattle.coder.specs.File.{entriesRefusal, fileRefusal, entryOf};
+ghost use Rattle.coder.specs.Table.{coderOfEntries, coderOf, tableOf, tableAt, limitsOf, Tabled};
 use crate::inner::bytes::byte;
 use crate::inner::bytes::number;
+use crate::inner::file::entries;
 
 // A coder: the entry of state s and input letter i stands at 16 s + i of both tables; the other places hold 0.
 pub struct Coder {
@@ -44,49 +46,63 @@ impl Coder {
     }
 }
 
-// A byte of the entry of state s and letter i, the bytes of that kind standing from base on; 0 where there is no such entry.
-fn file_entry(file: &[u8], base: usize, s: usize, i: usize) -> u8
-    requires { ⌜ (base ≤ 7) × (fileRefusal (now file) ≡ 0) ⌝ }
-    ensures { λ r. ⌜ r ≡ entryOf (now (file .entry)) base s i ⌝ }
+// A byte of the entry of state s and letter i: offset 0 has the next state, offset 1 the output letter; 0 where there is no such
+// entry.
+fn entry_byte(states: usize, inputs: usize, entries: &[u8], offset: usize, s: usize, i: usize) -> u8
+    requires { ⌜ (length (now entries) ≡ 2 * (states * inputs)) × (offset < 2) ⌝ }
+    ensures { λ r. ⌜ r ≡ entryOf states inputs (now (entries .entry)) offset s i ⌝ }
 {
-    let states = byte(file, 3);
-    let inputs = byte(file, 4);
     if s < states {
         if i < inputs {
-            return file[base + 2 * (inputs * s + i)];
+            return entries[2 * (inputs * s + i) + offset];
         }
     }
     0
 }
 
-// One table of a checked file: of next states from byte 6 on, of output letters from byte 7 on.
-fn file_table(file: &[u8], base: usize) -> [u8; 256]
-    requires { ⌜ (base ≤ 7) × (fileRefusal (now file) ≡ 0) ⌝ }
-    ensures { λ r. ⌜ r ≡ tableOf (now (file .entry)) base ⌝ }
+// One table: offset 0 has the next states, offset 1 the output letters.
+fn entry_table(states: usize, inputs: usize, entries: &[u8], offset: usize) -> [u8; 256]
+    requires { ⌜ Tabled states inputs (now entries) offset ⌝ }
+    ensures { λ r. ⌜ r ≡ tableOf states inputs (now (entries .entry)) offset ⌝ }
 {
-    let end = Coder::INPUTS * byte(file, 3);
+    let end = Coder::INPUTS * states;
     let mut table = [0u8; 256];
     let mut k = 0;
     while k < end {
-        table[k] = file_entry(file, base, k / Coder::INPUTS, k % Coder::INPUTS);
+        table[k] = entry_byte(
+            states,
+            inputs,
+            entries,
+            offset,
+            k / Coder::INPUTS,
+            k % Coder::INPUTS,
+        );
         k += 1;
     }
     table
 }
 
 impl Coder {
+    // The coder of counts and entries that refusals 4 to 6 pass.
+    pub fn from_entries(states: usize, inputs: usize, outputs: usize, entries: &[u8]) -> Self
+        requires { ⌜ entriesRefusal states inputs outputs (now entries) ≡ 0 ⌝ }
+        ensures { λ r. ⌜ r ≡ coderOfEntries states inputs outputs (now (entries .entry)) ⌝ }
+    {
+        Coder {
+            states,
+            inputs,
+            outputs,
+            next: entry_table(states, inputs, entries, 0),
+            output: entry_table(states, inputs, entries, 1),
+        }
+    }
+
     // The coder of a checked file.
     pub fn from_checked(file: &[u8]) -> Self
         requires { ⌜ fileRefusal (now file) ≡ 0 ⌝ }
         ensures { λ r. ⌜ r ≡ coderOf (now (file .entry)) ⌝ }
     {
-        Coder {
-            states: byte(file, 3),
-            inputs: byte(file, 4),
-            outputs: byte(file, 5),
-            next: file_table(file, 6),
-            output: file_table(file, 7),
-        }
+        Coder::from_entries(byte(file, 3), byte(file, 4), byte(file, 5), entries(file))
     }
 }
 

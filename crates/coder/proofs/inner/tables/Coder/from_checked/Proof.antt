@@ -1,8 +1,8 @@
 -- `Coder::from_checked` meets its contract.
+use mathlib.Core.Path.{_∙_}
 use native.Mathlib.Omega.{arith}
-use borrow.Author.Needs.{needs}
 use Rattle.coder.proofs.Tables.{coder-is}
-use Rattle.coder.proofs.Accepted.{accepted}
+use Rattle.coder.proofs.Accepted.{accepted, file-entries}
 use Rattle.coder.proofs.inner.tables.Coder.from_checked.Statement.{statement}
 use Rattle.coder.proofs.inner.tables.Coder.from_checked.Tie as tie
 
@@ -15,17 +15,14 @@ byte-requires-2 c κs = omega (arith, accepted _ (c .before .before .pre))
 byte-requires-3 : tie.Need-byte-requires-3
 byte-requires-3 c κs = omega (arith, accepted _ (c .before .before .before .pre))
 
-file-table-requires : tie.Need-file-table-requires
-file-table-requires c κs = (search needs, c .before .before .before .before .pre)
+entries-requires : tie.Need-entries-requires
+entries-requires c κs = omega (arith, accepted _ (c .before .before .before .before .pre))
 
-file-table-requires-2 : tie.Need-file-table-requires-2
-file-table-requires-2 c κs = (search needs, c .before .before .before .before .before .pre)
+from-entries-requires : tie.Need-from-entries-requires
+from-entries-requires c κs = let z = file-entries _ (c .before .before .before .before .before .pre) in cc
 
 returns : tie.Need-returns
-returns c =
-    let b = c .before .before in
-    coder-is _ _ _ _ _ _ (b .before .before .byte .ensures .0) (b .before .byte2 .ensures .0) (b .byte3 .ensures .0)
-    (c .before .file-table .ensures) (c .file-table2 .ensures)
+returns c = c .from-entries .ensures ∙ coder-is _ _ _ _ _ (c .before .before .before .before .byte .ensures .0) (c .before .before .before .byte2 .ensures .0) (c .before .before .byte3 .ensures .0) (c .before .entries .ensures)
 
 pub from-checked-spec : {M : Type 1} → statement M
 from-checked-spec =
@@ -34,6 +31,6 @@ from-checked-spec =
     byte-requires
     byte-requires-2
     byte-requires-3
-    file-table-requires
-    file-table-requires-2
+    entries-requires
+    from-entries-requires
     returns)

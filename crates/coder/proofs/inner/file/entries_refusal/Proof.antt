@@ -1,0 +1,62 @@
+-- `entries_refusal` meets its contract: refusals 4, 5 and 6 in order. Counts in range keep the products small.
+use mathlib.Core.Bool.{not}
+use mathlib.Core.Path.{_≡_, _∙_, sym}
+use native.Mathlib.Omega.{arith}
+use borrow.Author.Needs.{needs}
+use denote.Ref.{now}
+use Rattle.coder.specs.Refusal.{refuse}
+use Rattle.coder.specs.File.{entriesRefusal}
+use Rattle.coder.proofs.Accepted.{InLimits, in-limits, by-entries}
+use Rattle.coder.proofs.Refusals.{tests, via}
+use Rattle.coder.proofs.inner.file.entries_refusal.Statement.{statement}
+use Rattle.coder.proofs.inner.file.entries_refusal.Tie as tie
+
+small : (c : tie.Then1) → let a = c .before .before .before .args in InLimits (a .states) (a .inputs) (a .outputs)
+small c = in-limits _ _ _ (via (c .before .in-range .ensures) (c .if1 .taken))
+
+in-range-requires : tie.Need-in-range-requires
+in-range-requires c κs = search needs
+
+mul-n : tie.Need-mul-n
+mul-n c = omega (arith, small c)
+
+mul-if2 : tie.Need-mul-if2
+mul-if2 c = omega (arith, small c)
+
+returns : tie.Need-returns
+unfolding entriesRefusal
+returns c = simp (via (c .before .before .in-range .ensures) (c .before .if1 .taken)) (search tests)
+
+entries-in-range-requires : tie.Need-entries-in-range-requires
+entries-in-range-requires c κs = search needs
+
+tested :
+    (c : tie.After-entries-in-range) →
+    let a = c .before .before .before .before .before .args in
+    entriesRefusal (a .states) (a .inputs) (a .outputs) (now (a .entries)) ≡ refuse (not (c .entries-in-range .result)) 6 0
+tested c =
+    let b = c .before .before in
+    by-entries _ _ _ _ _ (via (b .before .in-range .ensures) (b .if1 .taken)) (c .before .if2 .left) (c .entries-in-range .ensures)
+
+returns-2 : tie.Need-returns-2
+returns-2 c = sym (tested (c .before) ∙ simp (c .if3 .taken))
+
+returns-3 : tie.Need-returns-3
+returns-3 c = sym (tested (c .before) ∙ simp (c .if3 .left))
+
+returns-4 : tie.Need-returns-4
+unfolding entriesRefusal
+returns-4 c = simp (via (c .before .in-range .ensures) (c .if1 .left)) (search tests)
+
+pub entries-refusal-spec : {M : Type 1} → statement M
+entries-refusal-spec =
+    tie.close
+    (tie.spec
+    in-range-requires
+    mul-n
+    mul-if2
+    returns
+    entries-in-range-requires
+    returns-2
+    returns-3
+    returns-4)
