@@ -1,16 +1,15 @@
 -- The layout of the result buffer, which docs/c-interface.md describes.
-use Prim.Native.Nat.{ℕ, _*_, _/_, _%_}
+use Prim.Native.Nat.{ℕ, _*_}
 use mathlib.Core.Bool.{Bool, cond}
 use mathlib.Core.List.{List, [], _∷_, _++_}
 use lib.ListN.{length, drop}
+use Rattle.coder.specs.BigEndian.{bigEndian}
 use Rattle.search.specs.declared.Verdict.{Verdict}
 use Rattle.search.specs.declared.Verdict.the-variants.{Least, NoDecoder}
 
--- A number in 8 bytes, big-endian: the digits to base 256, the highest first.
+-- A number in 8 bytes, big-endian.
 abbrev pub field : ℕ → List ℕ
-field x =
-    x / 72057594037927936 % 256 ∷ x / 281474976710656 % 256 ∷ x / 1099511627776 % 256 ∷ x / 4294967296 % 256 ∷ x / 16777216 % 256 ∷
-    x / 65536 % 256 ∷ x / 256 % 256 ∷ x % 256 ∷ []
+field x = bigEndian 8 x
 
 -- The fields of some numbers, one after the other: field k stands at bytes 8 k to 8 k + 7.
 unfoldable pub fieldsOf : List ℕ → List ℕ

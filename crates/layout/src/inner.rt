@@ -11,15 +11,7 @@ fn put_field(result: &mut [u8], k: usize, x: usize)
     requires { ⌜ 8 * k + 8 ≤ length (now result) ⌝ }
     ensures { λ _. ⌜ now (result .exit) ≡ sets (now (result .entry)) (8 * k) (field x) ⌝ }
 {
-    let at = 8 * k;
-    result[at] = (x / 72057594037927936 % 256) as u8;
-    result[at + 1] = (x / 281474976710656 % 256) as u8;
-    result[at + 2] = (x / 1099511627776 % 256) as u8;
-    result[at + 3] = (x / 4294967296 % 256) as u8;
-    result[at + 4] = (x / 16777216 % 256) as u8;
-    result[at + 5] = (x / 65536 % 256) as u8;
-    result[at + 6] = (x / 256 % 256) as u8;
-    result[at + 7] = (x % 256) as u8;
+    coder::inner::big_endian::put(result, 8 * k, 8, x);
 }
 
 // Writes a list of numbers into the first fields.
