@@ -1,7 +1,6 @@
--- What the contracts of the file reader and the coder run cite.
+-- What the contracts of the file reader cite.
 pub mod Refusal
 pub mod Limits
 pub mod BigEndian
 pub mod File
 pub mod Table
-pub mod Run

@@ -51,12 +51,12 @@ fn show(bytes: &[u8]) {
 // What a run returns, and the lent buffer after it.
 fn run(label: &[u8], file: &[u8], start: usize, input: &[u8], buffer: &mut [u8]) {
     say(label);
-    match coder::run(file, start, input, buffer) {
-        coder::RunResult::Refused(k) => {
+    match running::run(file, start, input, buffer) {
+        running::RunResult::Refused(k) => {
             say(b": refused");
             number(k);
         }
-        coder::RunResult::Done { count, end } => {
+        running::RunResult::Done { count, end } => {
             say(b": count");
             number(count);
             say(b" end");

@@ -119,12 +119,12 @@ fn table3(label: &[u8], file: &[u8], before: usize, after: usize) {
 fn back(label: &[u8], file: &[u8], before: usize, after: usize, input: &[u8]) {
     let mut sent = [238u8; 5];
     say(label);
-    match coder::run(file, 0, input, &mut sent) {
-        coder::RunResult::Refused(k) => {
+    match running::run(file, 0, input, &mut sent) {
+        running::RunResult::Refused(k) => {
             say(b": refused");
             number(k);
         }
-        coder::RunResult::Done { count, end } => {
+        running::RunResult::Done { count, end } => {
             say(b": count");
             number(count);
             say(b" end");

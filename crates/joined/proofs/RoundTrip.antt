@@ -15,9 +15,9 @@ use Rattle.mealy.proofs.Answers.{length-outs}
 use Rattle.coder.specs.Limits.{maxSide}
 use Rattle.coder.specs.Refusal.{lettersBelow, upon}
 use Rattle.coder.specs.File.{fileRefusal, statesOf, inputsOf, outputsOf, machineOf, settingOf}
-use Rattle.coder.specs.Run.{runRefusal, runRefusalIn, RunPromise}
-use Rattle.coder.specs.declared.RunResult.{RunResult}
-use Rattle.coder.specs.declared.RunResult as run
+use Rattle.running.specs.Run.{runRefusal, runRefusalIn, RunPromise}
+use Rattle.running.specs.declared.RunResult.{RunResult}
+use Rattle.running.specs.declared.RunResult as run
 use Rattle.coder.proofs.Accepted.{Accepted, accepted}
 use Rattle.coder.proofs.Tables.{output-below}
 use Rattle.product.proofs.Depths.{pairs-high}

@@ -5,8 +5,8 @@ use Prim.Native.Nat.{ℕ, _+_, _<_}
 use lib.ListN.{length, getD}
 use Rattle.mealy.specs.Machine.{end}
 use Rattle.coder.specs.File.{machineOf}
-use Rattle.coder.specs.declared.RunResult.{RunResult}
-use Rattle.coder.specs.declared.RunResult as run
+use Rattle.running.specs.declared.RunResult.{RunResult}
+use Rattle.running.specs.declared.RunResult as run
 use Rattle.least.specs.declared.Window.{Window}
 use Rattle.values.specs.Window.{window}
 use Rattle.decoder.specs.Places.{places}

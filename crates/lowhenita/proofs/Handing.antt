@@ -12,11 +12,11 @@ use Rattle.mealy.specs.Answer.{byteOf}
 use Rattle.mealy.specs.LoopedPair.{LoopedPair, letters, Valid}
 use Rattle.coder.specs.Refusal.{refuse, answer, upon, Judges}
 use Rattle.coder.specs.File.{fileRefusal, statesOf, settingOf}
-use Rattle.coder.specs.Run.{runRefusal, runRefusalIn, RunPromise}
-use Rattle.coder.specs.declared.RunResult.{RunResult}
-use Rattle.coder.specs.declared.RunResult.the-variants.{Refused as RunRefused, Done as RunDone}
+use Rattle.running.specs.Run.{runRefusal, runRefusalIn, RunPromise}
+use Rattle.running.specs.declared.RunResult.{RunResult}
+use Rattle.running.specs.declared.RunResult.the-variants.{Refused as RunRefused, Done as RunDone}
 use Rattle.coder.proofs.Refusals.{true-false, both-right, both-false, refuse-none, first-none, answer-refused, upon-refused, upon-done}
-use Rattle.coder.proofs.Running.{run-accepted}
+use Rattle.running.proofs.Running.{run-accepted}
 use Rattle.values.specs.declared.Window.{Window}
 use Rattle.pass.specs.Answer.{meaning}
 use Rattle.pass.specs.declared.Answer.{Answer}

@@ -13,7 +13,7 @@ use Rattle.mealy.specs.Answer.{byteOf}
 use Rattle.mealy.specs.LoopedPair.{LoopedPair, Valid}
 use Rattle.coder.specs.Refusal.{answer, upon, Judges}
 use Rattle.coder.specs.File.{outputsOf, machineOf, settingOf}
-use Rattle.coder.specs.Run.{runRefusal}
+use Rattle.running.specs.Run.{runRefusal}
 use Rattle.values.specs.declared.Window.{Window}
 use Rattle.pass.specs.Answer.{meaning}
 use Rattle.pass.specs.declared.Answer.{Answer}

@@ -18,12 +18,12 @@ pub extern "C" fn lowhenita_run(
     ensures { λ r. ⌜ RunHosted (now (file .entry)) start (now (input .entry)) (now (output .entry)) (now (result .entry)) r (now (output .exit)) (now (result .exit)) ⌝ }
 {
     if result.len() < RESULT {
-        return coder::inner::run::refusal(file, start, input, false);
+        return running::inner::refusal(file, start, input, false);
     }
-    let r = coder::run(file, start, input, output);
+    let r = running::run(file, start, input, output);
     match r {
-        coder::RunResult::Refused(k) => k,
-        coder::RunResult::Done { count, end } => {
+        running::RunResult::Refused(k) => k,
+        running::RunResult::Done { count, end } => {
             layout::inner::put_two(result, count, end);
             0
         }

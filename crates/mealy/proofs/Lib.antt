@@ -2,6 +2,7 @@
 pub mod Edges
 pub mod Levels
 pub mod Runs
+pub mod Agreeing
 pub mod Windows
 pub mod Sums
 pub mod Decisions

@@ -1,16 +1,17 @@
 -- The coder run: its refusal, its result and what it leaves in the lent buffer.
 use Prim.Native.Nat.{ℕ, _<_, _≤_}
 use mathlib.Core.Path.{_≡_}
-use mathlib.Core.Bool.{Bool, not}
+use mathlib.Core.Bool.{Bool, true, not}
 use mathlib.Core.List.{List, _++_}
 use lib.ListN.{length, drop}
 use lib.Dec.{ltb, leb}
-use Rattle.mealy.specs.Machine.{outs, end, Letters}
+use Rattle.mealy.specs.Machine.{Machine, outs, end, Letters}
 use Rattle.coder.specs.Refusal.{refuse, first, answer, lettersBelow}
 use Rattle.coder.specs.File.{fileRefusal, statesOf, inputsOf, machineOf}
+use Rattle.coder.specs.Limits.{maxStates, maxInputs}
 use Rattle.coder.specs.Table.{tableAt, machineIn}
-use Rattle.coder.specs.declared.RunResult.{RunResult}
-use Rattle.coder.specs.declared.RunResult.the-variants.{Refused, Done}
+use Rattle.running.specs.declared.RunResult.{RunResult}
+use Rattle.running.specs.declared.RunResult.the-variants.{Refused, Done}
 
 -- The run's refusal, in checking order: 1 to 6, then 7 (start state), 11 (some lent buffer is too short), 12 (an input letter).
 -- Whether all lent buffers are long enough is an argument, since a call may lend more than one.
@@ -34,13 +35,23 @@ pub record RunPromise (f : List ℕ) (s : ℕ) (xs before : List ℕ) (r : RunRe
   pub result : r ≡ answer (runRefusalIn f s xs before) (λ k. Refused k) (Done (length xs) (end (machineOf f) s xs))
   pub bytes : after ≡ answer (runRefusalIn f s xs before) (λ k. before) (outs (machineOf f) s xs ++ drop (length xs) before)
 
--- what the loop over the letters asks of the tables, and what it does
-pub record Runnable (next : List ℕ) (s : ℕ) (xs before : List ℕ) : Type 0 where
-  pub next-state : (s i : ℕ) → tableAt next s i < 16
-  pub state : s < 16
-  pub letters : Letters 16 xs
+-- The end state of a run of M from s on xs, and the lent buffer after it, which held `before`.
+pub record Ran (M : Machine) (s : ℕ) (xs before : List ℕ) (last : ℕ) (after : List ℕ) : Type 0 where
+  pub ends : last ≡ end M s xs
+  pub bytes : after ≡ outs M s xs ++ drop (length xs) before
+
+-- what the run of a checked call asks: no refusal applies, and the buffer has room for the output letters
+pub record RunAsked (f : List ℕ) (s : ℕ) (xs before : List ℕ) : Type 0 where
+  pub none : runRefusal f s xs true ≡ 0
   pub room : length xs ≤ length before
 
-pub record Ran (next output : List ℕ) (s : ℕ) (xs before : List ℕ) (last : ℕ) (after : List ℕ) : Type 0 where
-  pub ends : last ≡ end (machineIn 16 16 next output) s xs
-  pub bytes : after ≡ outs (machineIn 16 16 next output) s xs ++ drop (length xs) before
+-- what the loop over the letters asks of the tables
+pub record Runnable (next : List ℕ) (s : ℕ) (xs before : List ℕ) : Type 0 where
+  pub next-state : (s i : ℕ) → tableAt next s i < maxStates
+  pub state : s < maxStates
+  pub letters : Letters maxInputs xs
+  pub room : length xs ≤ length before
+
+-- the machine in two tables, of as many states and letters as they have places for
+abbrev pub tablesMachine : List ℕ → List ℕ → Machine
+tablesMachine next output = machineIn maxStates maxInputs next output

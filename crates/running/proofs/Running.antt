@@ -1,7 +1,7 @@
 -- The run letter by letter, and what a run that is not refused may rely on.
-use mathlib.Core.Path.{_≡_, refl, sym, ap, ap₂, _∙_}
+use mathlib.Core.Path.{_≡_, refl, sym, ap, _∙_}
 use mathlib.Core.Bool.{Bool, true, not}
-use mathlib.Core.List.{List, [], _∷_, _++_, append-nil}
+use mathlib.Core.List.{List, _++_, append-nil}
 use Prim.Native.Nat.{ℕ, _+_, _≤_, _<_}
 use native.Mathlib.Numerals.{add-one}
 use native.Mathlib.Omega.{arith}
@@ -10,14 +10,16 @@ use lib.Seq.{drop-cons, drop-drop, drop-length, drop-set-lt, take-suc-set, appen
 use lib.Dec.{lit<, ltb}
 use borrow.Author.Tests.{ltb-true}
 use Rattle.mealy.specs.Machine.{Machine, outs, end, Letters}
+use Rattle.mealy.proofs.Agreeing.{outs-agree, end-agree}
+use Rattle.coder.specs.Limits.{maxInputs}
 use Rattle.coder.specs.Refusal.{refuse, lettersBelow}
 use Rattle.coder.specs.File.{statesOf, inputsOf, fileRefusal, machineOf}
-use Rattle.coder.specs.Table.{coderOf, tableAt, machineIn}
-use Rattle.coder.specs.Run.{runRefusal, Runnable, Ran}
+use Rattle.coder.specs.Table.{coderOf, tableAt}
+use Rattle.running.specs.Run.{runRefusal, tablesMachine, Runnable, Ran, RunAsked}
 use Rattle.coder.specs.declared.inner.tables.Coder.{Coder}
 use Rattle.coder.proofs.Refusals.{refuse-not, first-none, letters-below, letters-higher}
-use Rattle.coder.proofs.Accepted.{Accepted, accepted}
+use Rattle.coder.proofs.Accepted.{accepted}
 use Rattle.coder.proofs.Tables.{table-same, sound-coder}
 
 -- the run from st on xs has come to place i and to state s; the buffer was `before` and is o
 pub record Reached (M : Machine) (st : ℕ) (xs before o : List ℕ) (s i : ℕ) : Type 0 where
@@ -54,18 +56,6 @@ module _ {M : Machine} {st : ℕ} {xs before o : List ℕ} {s i : ℕ} (a : Reac
   pub reached-bytes : o ≡ outs M st xs ++ drop (length xs) before
   reached-bytes = sym (take-append-drop i o) ∙ rw (a .rest, a .wrote, e, drop-length, append-nil)
 
--- a run goes by the entries only
-module _ (M M′ : Machine) (n : M .next ≡ M′ .next) (o : M .out ≡ M′ .out) where
-  pub outs-agree : (s : ℕ) (xs : List ℕ) → outs M s xs ≡ outs M′ s xs
-  outs-agree s [] = refl
-  outs-agree s (x ∷ xs) =
-      ap₂ _∷_ (ap (λ (g : ℕ → ℕ → ℕ). g s x) o)
-      (ap (λ (g : ℕ → ℕ → ℕ). outs M (g s x) xs) n ∙ outs-agree (M′ .next s x) xs)
-
-  pub end-agree : (s : ℕ) (xs : List ℕ) → end M s xs ≡ end M′ s xs
-  end-agree s [] = refl
-  end-agree s (x ∷ xs) = ap (λ (g : ℕ → ℕ → ℕ). end M (g s x) xs) n ∙ end-agree (M′ .next s x) xs
-
 pub record RunAccepted (f : List ℕ) (s : ℕ) (xs : List ℕ) (fit : Bool) : Type 0 where
   pub file : fileRefusal f ≡ 0
   pub state : s < statesOf f
@@ -89,13 +79,21 @@ run-accepted f s xs fit e =
       letters = letters-below (inputsOf f) xs (t .0);
     }
 
+-- where a call's refusal is 0 and its input fits into the buffer
+pub asked :
+    (f : List ℕ) (s : ℕ) (xs before : List ℕ) (fit : Bool) → runRefusal f s xs fit ≡ 0 → length xs ≤ length before →
+    RunAsked f s xs before
+asked f s xs before fit e l = record { none = rw (run-accepted f s xs fit e .fits) at e; room = l }
+
 -- the loop over the letters on the tables of the file
-module _ {c : Coder} {f : List ℕ} (e : c ≡ coderOf f) where
-  pub runnable :
-      {s : ℕ} {xs before : List ℕ} {fit : Bool} → RunAccepted f s xs fit → length xs ≤ length before →
-      Runnable (c .next) s xs before
+module _ {c : Coder} {f : List ℕ} (e : c ≡ coderOf f) {s : ℕ} {xs before : List ℕ} (q : RunAsked f s xs before) where
+  acceptance : RunAccepted f s xs true
+  acceptance = run-accepted f s xs true (q .none)
+
+  pub runnable : Runnable (c .next) s xs before
   unfolding coderOf
-  runnable {s} {xs} r l =
+  runnable =
+      let r = acceptance in
       let a = accepted f (r .file) in
       let h = a .entries .limits in
       let p = r .state in
@@ -103,26 +101,22 @@ module _ {c : Coder} {f : List ℕ} (e : c ≡ coderOf f) where
       record {
         next-state = λ s i. omega (arith, sound-coder f a .next-state s i);
         state = omega arith;
-        letters = letters-higher (inputsOf f) 16 xs (h .inputs-high) (r .letters);
-        room = l;
+        letters = letters-higher (inputsOf f) maxInputs xs (h .inputs-high) (r .letters);
+        room = q .room;
       }
 
-  module _ (a : Accepted f) {s last : ℕ} {xs before after : List ℕ}
-      (r : Ran (c .next) (c .output) s xs before last after) where
-    abbrev M : Machine
-    M = machineIn 16 16 (c .next) (c .output)
+  next-same : tableAt (c .next) ≡ machineOf f .next
+  unfolding coderOf machineOf
+  next-same = rw e (table-same (accepted f (acceptance .file) .entries) 0)
 
-    next-same : tableAt (c .next) ≡ machineOf f .next
-    unfolding coderOf machineOf
-    next-same = rw e (table-same (a .entries) 0)
+  output-same : tableAt (c .output) ≡ machineOf f .out
+  unfolding coderOf machineOf
+  output-same = rw e (table-same (accepted f (acceptance .file) .entries) 1)
 
-    output-same : tableAt (c .output) ≡ machineOf f .out
-    unfolding coderOf machineOf
-    output-same = rw e (table-same (a .entries) 1)
-
-    pub ran-end : last ≡ end (machineOf f) s xs
-    ran-end = r .ends ∙ end-agree M (machineOf f) next-same output-same s xs
-
-    pub ran-bytes : after ≡ outs (machineOf f) s xs ++ drop (length xs) before
-    ran-bytes =
-        r .bytes ∙ ap (λ l. l ++ drop (length xs) before) (outs-agree M (machineOf f) next-same output-same s xs)
+  pub ran-file : {last : ℕ} {after : List ℕ} → Ran (tablesMachine (c .next) (c .output)) s xs before last after → Ran (machineOf f) s xs before last after
+  ran-file {last} {after} r =
+      let M = tablesMachine (c .next) (c .output) in
+      record {
+        ends = r .ends ∙ end-agree M (machineOf f) next-same output-same s xs;
+        bytes = r .bytes ∙ ap (λ l. l ++ drop (length xs) before) (outs-agree M (machineOf f) next-same output-same s xs);
+      }

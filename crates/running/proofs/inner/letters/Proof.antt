@@ -5,15 +5,15 @@ use native.Mathlib.Omega.{arith}
 use lib.ListN.{length}
 use borrow.Author.Needs.{needs}
 use denote.Ref.{now}
-use Rattle.coder.specs.Table.{machineIn}
+use Rattle.running.specs.Run.{tablesMachine}
 use Rattle.coder.proofs.Refusals.{letter-at}
-use Rattle.coder.proofs.Running.{Reached, reached-none, reached-more, reached-end, reached-bytes}
-use Rattle.coder.proofs.inner.run.letters.Statement.{statement}
-use Rattle.coder.proofs.inner.run.letters.Tie as tie
+use Rattle.running.proofs.Running.{Reached, reached-none, reached-more, reached-end, reached-bytes}
+use Rattle.running.proofs.inner.letters.Statement.{statement}
+use Rattle.running.proofs.inner.letters.Tie as tie
 
 abbrev Inv-loop : tie.InvT-loop
 Inv-loop next output start input written₀ s₀ i₀ written s i =
-    (s < 16) × Reached (machineIn 16 16 next output) start input written₀ written s i
+    (s < 16) × Reached (tablesMachine next output) start input written₀ written s i
 
 abbrev μ-loop : tie.MeasureT-loop
 μ-loop next output start input written₀ s₀ i₀ written s i = length input - i

@@ -1,15 +1,17 @@
-// The run's refusal, and the run on the tables.
+// No public calls: the run's refusal, and the run of a checked call.
 ghost use mathlib.Core.Path.{_≡_};
-ghost use Rattle.coder.specs.Run.{runRefusal, Runnable, Ran};
-use crate::inner::bytes::byte;
-use crate::inner::bytes::letters_below;
-use crate::inner::tables::entry;
+ghost use Rattle.coder.specs.File.{machineOf};
+ghost use Rattle.running.specs.Run.{runRefusal, tablesMachine, Runnable, Ran, RunAsked};
+use coder::inner::bytes::byte;
+use coder::inner::bytes::letters_below;
+use coder::inner::tables::Coder;
+use coder::inner::tables::entry;
 
 // The refusal of a run, or 0. `fits` says whether all lent buffers are long enough.
 pub fn refusal(file: &[u8], start: usize, input: &[u8], fits: bool) -> usize
     ensures { λ r. ⌜ r ≡ runRefusal (now (file .entry)) start (now (input .entry)) fits ⌝ }
 {
-    let k = crate::inner::file::refusal(file);
+    let k = coder::inner::file::refusal(file);
     if k != 0 {
         return k;
     }
@@ -30,7 +32,7 @@ pub fn refusal(file: &[u8], start: usize, input: &[u8], fits: bool) -> usize
 }
 
 // Writes the output letters of the run from start on the input, and returns the state in which it ends.
-pub fn letters<'a>(
+fn letters<'a>(
     next: &'a [u8; 256],
     output: &'a [u8; 256],
     start: usize,
@@ -38,7 +40,7 @@ pub fn letters<'a>(
     written: &mut [u8],
 ) -> usize
     requires { ⌜ Runnable (now next) start (now input) (now written) ⌝ }
-    ensures { λ r. ⌜ Ran (now (next .entry)) (now (output .entry)) start (now (input .entry)) (now (written .entry)) r (now (written .exit)) ⌝ }
+    ensures { λ r. ⌜ Ran (tablesMachine (now (next .entry)) (now (output .entry))) start (now (input .entry)) (now (written .entry)) r (now (written .exit)) ⌝ }
 {
     let mut s = start;
     let mut i = 0;
@@ -49,4 +51,13 @@ pub fn letters<'a>(
         i += 1;
     }
     s
+}
+
+// The same on a file, in a call that is not refused.
+pub fn checked(file: &[u8], start: usize, input: &[u8], output: &mut [u8]) -> usize
+    requires { ⌜ RunAsked (now file) start (now input) (now output) ⌝ }
+    ensures { λ r. ⌜ Ran (machineOf (now (file .entry))) start (now (input .entry)) (now (output .entry)) r (now (output .exit)) ⌝ }
+{
+    let c = Coder::from_checked(file);
+    letters(&c.next, &c.output, start, input, output)
 }

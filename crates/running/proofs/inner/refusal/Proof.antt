@@ -1,16 +1,16 @@
--- `run::refusal` meets its contract: the file's refusals, then 7, 11 and 12 in order.
+-- `refusal` meets its contract: the file's refusals, then 7, 11 and 12 in order.
 use mathlib.Core.Bool.{not}
 use mathlib.Core.Path.{_≡_}
 use native.Mathlib.Omega.{arith}
 use borrow.Author.Needs.{needs}
 use denote.Ref.{now}
 use Rattle.coder.specs.File.{fileRefusal}
 use Rattle.coder.specs.Refusal.{refuse}
-use Rattle.coder.specs.Run.{runRefusal}
+use Rattle.running.specs.Run.{runRefusal}
 use Rattle.coder.proofs.Refusals.{refused-first, tests, via}
 use Rattle.coder.proofs.Accepted.{accepted}
-use Rattle.coder.proofs.inner.run.refusal.Statement.{statement}
-use Rattle.coder.proofs.inner.run.refusal.Tie as tie
+use Rattle.running.proofs.inner.refusal.Statement.{statement}
+use Rattle.running.proofs.inner.refusal.Tie as tie
 
 refusal-requires : tie.Need-refusal-requires
 refusal-requires c κs = search needs

@@ -1,0 +1,2 @@
+-- What the contracts of the coder run cite.
+pub mod Run
