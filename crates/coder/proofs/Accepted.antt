@@ -9,17 +9,18 @@ use lib.ListN.{length, getD, length-drop}
 use lib.Dec.{lit<, ltb, eqb}
 use borrow.Author.Tests.{leb-true, ltb-true, ltb-false, eqb-true, le-ltb, eq-eqb}
 use Rattle.coder.specs.Refusal.{refuse, allBelow}
+use Rattle.coder.specs.Limits.{maxStates, maxInputs, maxOutputs}
 use Rattle.coder.specs.File.{versionOf, countField, statesOf, inputsOf, outputsOf, entriesOf, within, inRange, entryInRange, entriesRefusal, fileRefusal}
 use Rattle.coder.proofs.Refusals.{both-true, refuse-none, refuse-not, all-at}
 
 pub record InLimits (n i o : ℕ) : Type 0 where
   pub states-low : 1 ≤ n
-  pub states-high : n ≤ 16
+  pub states-high : n ≤ maxStates
   pub inputs-low : 1 ≤ i
-  pub inputs-high : i ≤ 16
+  pub inputs-high : i ≤ maxInputs
   pub outputs-low : 1 ≤ o
-  pub outputs-high : o ≤ 64
-  pub entries-high : n * i ≤ 256
+  pub outputs-high : o ≤ maxOutputs
+  pub entries-high : n * i ≤ maxStates * maxInputs
 
 pub in-limits : (n i o : ℕ) → inRange n i o ≡ true → InLimits n i o
 unfolding inRange within

@@ -1,5 +1,6 @@
 -- The coder file: what refuses it, and what an accepted one says (document 01, "Coder file").
 use Prim.Native.Nat.{ℕ, _+_, _*_, _-_}
+use mathlib.Core.Path.{_≡_}
 use mathlib.Core.Bool.{Bool, not, _&&_, cond}
 use mathlib.Core.List.{List, [], _∷_, _++_}
 use lib.ListN.{length, getD, drop}
@@ -71,6 +72,13 @@ headerOf f = answer (fileRefusal f) (λ k. Refused k) (Counts (statesOf f) (inpu
 -- The reader's second call: the entries, or an empty part.
 abbrev pub partOf : List ℕ → List ℕ
 partOf f = answer (fileRefusal f) (λ k. []) (entriesOf f)
+
+-- What that call hands back: those bytes, as a part of the caller's file. A place is a block of memory and an offset in it; the entries
+-- begin 6 bytes past the file's own place.
+pub record EntriesPart (f : List ℕ) (file : ℕ × ℕ) (part : List ℕ) (place : ℕ × ℕ) : Type 0 where
+  pub bytes : part ≡ partOf f
+  pub block : place .0 ≡ file .0
+  pub offset : place .1 ≡ file .1 + answer (fileRefusal f) (λ k. 0) 6
 
 -- A byte of the entry of state s and input letter x, of N states and I input letters, state by state and within a state input by
 -- input: offset 0 has the next state, offset 1 the output letter. 0 where there is no such entry.

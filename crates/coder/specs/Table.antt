@@ -54,10 +54,10 @@ machineOfCoder c = machineIn (c .states) (c .inputs) (c .next) (c .output)
 -- What the tables of an accepted file keep to.
 pub record Sound (c : Coder) : Type 0 where
   pub states-low : 1 ≤ c .states
-  pub states-high : c .states ≤ 16
+  pub states-high : c .states ≤ maxStates
   pub inputs-low : 1 ≤ c .inputs
-  pub inputs-high : c .inputs ≤ 16
+  pub inputs-high : c .inputs ≤ maxInputs
   pub outputs-low : 1 ≤ c .outputs
-  pub outputs-high : c .outputs ≤ 64
+  pub outputs-high : c .outputs ≤ maxOutputs
   pub next-state : (s i : ℕ) → tableAt (c .next) s i < c .states
   pub output-letter : (s i : ℕ) → tableAt (c .output) s i < c .outputs

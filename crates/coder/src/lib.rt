@@ -1,6 +1,7 @@
 // The coder file: the public calls. docs/public-calls.md describes them.
 ghost use mathlib.Core.Path.{_≡_};
-ghost use Rattle.coder.specs.File.{headerOf, partOf};
+ghost use denote.Ref.{ptr};
+ghost use Rattle.coder.specs.File.{headerOf, EntriesPart};
 
 pub mod inner; // inner.rt: what the crates above call on checked bytes; no public calls
 
@@ -31,7 +32,7 @@ pub fn counts(file: &[u8]) -> Header
 
 // The file reader's second call: the entries, as the part of the file from byte 6 on; an empty part of a refused file.
 pub fn entries(file: &[u8]) -> &[u8]
-    ensures { λ r. ⌜ now r ≡ partOf (now (file .entry)) ⌝ }
+    ensures { λ r. ⌜ EntriesPart (now (file .entry)) (ptr (file .entry)) (now r) (ptr r) ⌝ }
 {
     let k = inner::file::refusal(file);
     if k != 0 {

@@ -34,4 +34,13 @@ put-more result ns k l room =
     let end : 8 * k + 8 ≡ 8 * (k + 1) = omega arith in
     let eight : length (field x) ≡ 8 = length-bigEndian 8 x in
     sets-eq (field x) (P ++ q) (8 * k) (omega (arith, length-append P q, length-drop (8 * k) result))
-    ∙ rw (eight, take-at P q (8 * k) e, past (8 * k) _ e refl, drop-drop 8 (8 * k) result, end, add-one, take-suc ns k 0 l, fields-snoc (take k ns) x)
+    ∙ rw (
+      eight,
+      take-at P q (8 * k) e,
+      past (8 * k) _ e refl,
+      drop-drop 8 (8 * k) result,
+      end,
+      add-one,
+      take-suc ns k 0 l,
+      fields-snoc (take k ns) x,
+    )

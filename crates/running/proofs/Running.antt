@@ -113,7 +113,9 @@ module _ {c : Coder} {f : List ℕ} (e : c ≡ coderOf f) {s : ℕ} {xs before :
   unfolding coderOf machineOf
   output-same = rw e (table-same (accepted f (acceptance .file) .entries) 1)
 
-  pub ran-file : {last : ℕ} {after : List ℕ} → Ran (tablesMachine (c .next) (c .output)) s xs before last after → Ran (machineOf f) s xs before last after
+  pub ran-file :
+      {last : ℕ} {after : List ℕ} → Ran (tablesMachine (c .next) (c .output)) s xs before last after →
+      Ran (machineOf f) s xs before last after
   ran-file {last} {after} r =
       let M = tablesMachine (c .next) (c .output) in
       record {

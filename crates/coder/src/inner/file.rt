@@ -2,6 +2,7 @@
 ghost use mathlib.Core.Path.{_≡_};
 ghost use Prim.Native.Nat.{_+_, _*_, _<_, _≤_};
 ghost use lib.ListN.{length};
+ghost use denote.Ref.{ptr};
 ghost use Rattle.coder.specs.Refusal.{allBelow};
 ghost use Rattle.coder.specs.File.{within, inRange, entryInRange, entriesRefusal, countField, entriesOf, fileRefusal};
 use crate::inner::bytes::byte;
@@ -78,6 +79,7 @@ pub fn entries_refusal(states: usize, inputs: usize, outputs: usize, entries: &[
 pub fn entries(file: &[u8]) -> &[u8]
     requires { ⌜ 6 ≤ length (now file) ⌝ }
     ensures { λ r. ⌜ now r ≡ entriesOf (now (file .entry)) ⌝ }
+    ensures { λ r. ⌜ (ptr r .0 ≡ ptr (file .entry) .0) × (ptr r .1 ≡ ptr (file .entry) .1 + 6) ⌝ }
 {
     &file[6..]
 }

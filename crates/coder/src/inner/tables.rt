@@ -2,6 +2,7 @@
 ghost use mathlib.Core.Path.{_≡_};
 ghost use Prim.Native.Nat.{_*_, _<_};
 ghost use lib.ListN.{length};
+ghost use Rattle.coder.specs.Limits.{maxStates, maxInputs};
 ghost use Rattle.coder.specs.File.{entriesRefusal, fileRefusal, entryOf};
 ghost use Rattle.coder.specs.Table.{coderOfEntries, coderOf, tableOf, tableAt, limitsOf, Tabled};
 use crate::inner::bytes::byte;
@@ -108,7 +109,7 @@ impl Coder {
 
 // What a table holds for state s and letter i.
 pub fn entry(table: &[u8; 256], s: usize, i: usize) -> usize
-    requires { ⌜ (s < 16) × (i < 16) ⌝ }
+    requires { ⌜ (s < maxStates) × (i < maxInputs) ⌝ }
     ensures { λ r. ⌜ (r ≡ tableAt (now (table .entry)) s i) × (r < 256) ⌝ }
 {
     number(table[Coder::INPUTS * s + i])

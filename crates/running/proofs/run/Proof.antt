@@ -15,7 +15,12 @@ refusal-requires : tie.Need-refusal-requires
 refusal-requires c κs = search needs
 
 returns : tie.Need-returns
-returns c = let e = c .before .refusal .ensures in record { result = refused-answer _ _ _ e (c .if1 .taken); bytes = refused-answer _ _ _ e (c .if1 .taken) }
+returns c =
+    let e = c .before .refusal .ensures in
+    record {
+      result = refused-answer _ _ _ e (c .if1 .taken);
+      bytes = refused-answer _ _ _ e (c .if1 .taken);
+    }
 
 not-refused :
     (c : tie.Else1) →
@@ -30,7 +35,12 @@ same-length : tie.Need-same-length
 same-length c = search needs
 
 returns-2 : tie.Need-returns-2
-returns-2 c = let z = not-refused (c .before .before .before .before) in let r = c .before .before .checked .ensures in let xs = now (c .before .before .before .before .before .before .before .before .before .args .input) in record { result = rw z (ap (Done (length xs)) (r .ends)); bytes = rw z (r .bytes) }
+returns-2 c =
+    let b = c .before .before .before .before in
+    let z = not-refused b in
+    let r = c .before .before .checked .ensures in
+    let xs = now (b .before .before .before .before .before .args .input) in
+    record { result = rw z (ap (Done (length xs)) (r .ends)); bytes = rw z (r .bytes) }
 
 pub run-spec : {M : Type 1} → statement M
 run-spec = tie.close (tie.spec refusal-requires returns checked-requires same-length returns-2)

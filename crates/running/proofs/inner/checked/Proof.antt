@@ -9,13 +9,17 @@ from-checked-requires : tie.Need-from-checked-requires
 from-checked-requires c κs = run-accepted _ _ _ true (c .before .before .before .pre .none) .file
 
 letters-requires : tie.Need-letters-requires
-letters-requires c κs = runnable (c .before .before .before .before .from-checked .ensures) (c .before .before .before .before .before .before .before .before .pre)
+letters-requires c κs =
+    let b = c .before .before .before .before in
+    runnable (b .from-checked .ensures) (b .before .before .before .before .pre)
 
 same-length : tie.Need-same-length
 same-length c = search needs
 
 returns : tie.Need-returns
-returns c = ran-file (c .before .before .before .before .before .before .before .from-checked .ensures) (c .before .before .before .before .before .before .before .before .before .before .before .pre) (c .before .before .letters .ensures)
+returns c =
+    let b = c .before .before .before .before .before .before .before in
+    ran-file (b .from-checked .ensures) (b .before .before .before .before .pre) (c .before .before .letters .ensures)
 
 pub checked-spec : {M : Type 1} → statement M
 checked-spec = tie.close (tie.spec from-checked-requires letters-requires same-length returns)

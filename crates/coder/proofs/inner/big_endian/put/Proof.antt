@@ -11,7 +11,9 @@ use Rattle.coder.proofs.inner.big_endian.put.Tie as tie
 use Rattle.coder.proofs.inner.big_endian.put.Statement.{statement}
 
 abbrev Inv-loop : tie.InvT-loop
-Inv-loop bytes₀ place n x left₀ rest₀ bytes left rest = (left ≤ n) × (length bytes ≡ length bytes₀) × (sets bytes place (bigEndian left rest) ≡ sets bytes₀ place (bigEndian n x))
+Inv-loop bytes₀ place n x left₀ rest₀ bytes left rest =
+    (left ≤ n) × (length bytes ≡ length bytes₀)
+    × (sets bytes place (bigEndian left rest) ≡ sets bytes₀ place (bigEndian n x))
 
 abbrev μ-loop : tie.MeasureT-loop
 μ-loop bytes₀ place n x left₀ rest₀ bytes left rest = left
@@ -35,7 +37,9 @@ loop-less : tie.Need-loop-less Inv-loop μ-loop
 loop-less c = search needs
 
 loop-again : tie.Need-loop-again Inv-loop μ-loop
-loop-again c = let l = c .before .loop in (omega arith, simp length-set (l .inv .1), store-last _ _ _ _ _ _ (omega arith) (omega arith) ∙ l .inv .2)
+loop-again c =
+    let l = c .before .loop in
+    (omega arith, simp length-set (l .inv .1), store-last _ _ _ _ _ _ (omega arith) (omega arith) ∙ l .inv .2)
 
 same-length : tie.Need-same-length Inv-loop μ-loop
 same-length c = search needs

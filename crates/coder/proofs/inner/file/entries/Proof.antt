@@ -18,7 +18,9 @@ part-result-end : tie.Need-part-result-end
 part-result-end c = search needs
 
 returns : tie.Need-returns
-returns c = let f = now (c .before .args .file) in take-all (length f - 6) (drop 6 f) (omega (arith, length-drop 6 f))
+returns c =
+    let f = now (c .before .args .file) in
+    (take-all (length f - 6) (drop 6 f) (omega (arith, length-drop 6 f)), (search needs, search needs))
 
 pub entries-spec : {M : Type 1} → statement M
 entries-spec = tie.close (tie.spec sub-result part-result-start part-result-end returns)

@@ -30,7 +30,10 @@ loop-less : tie.Need-loop-less Inv-loop μ-loop
 loop-less c = search needs
 
 loop-again : tie.Need-loop-again Inv-loop μ-loop
-loop-again c = (search needs, all-more _ _ (via (c .before .entry-in-range .ensures) (c .if1 .taken)) (c .before .before .before .loop .inv .1))
+loop-again c = (
+  search needs,
+  all-more _ _ (via (c .before .entry-in-range .ensures) (c .if1 .taken)) (c .before .before .before .loop .inv .1),
+)
 
 returns : tie.Need-returns Inv-loop μ-loop
 returns c = sym (all-not _ _ _ (c .before .before .loop-test .taken) (via (c .before .entry-in-range .ensures) (c .if1 .left)))

@@ -26,11 +26,16 @@ byte-requires-2 c κs = search needs
 
 returns : tie.Need-returns
 unfolding entryInRange
-returns c = let a = c .before .before .before .before .args in let e = c .before .before .byte .ensures .0 in simp (lt-ltb (getD (now (a .entries)) (2 * a .j) 0) (a .states) (omega arith)) (cc)
+returns c =
+    let a = c .before .before .before .before .args in
+    let e = c .before .before .byte .ensures .0 in
+    simp (lt-ltb (getD (now (a .entries)) (2 * a .j) 0) (a .states) (omega arith)) (cc)
 
 returns-2 : tie.Need-returns-2
 unfolding entryInRange
-returns-2 c = let a = c .before .before .before .args in simp (le-ltb (getD (now (a .entries)) (2 * a .j) 0) (a .states) (omega arith))
+returns-2 c =
+    let a = c .before .before .before .args in
+    simp (le-ltb (getD (now (a .entries)) (2 * a .j) 0) (a .states) (omega arith))
 
 pub entry-in-range-spec : {M : Type 1} → statement M
 entry-in-range-spec =

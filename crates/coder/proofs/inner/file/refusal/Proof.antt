@@ -45,7 +45,11 @@ entries-refusal-requires : tie.Need-entries-refusal-requires
 entries-refusal-requires c κs = search needs
 
 returns-4 : tie.Need-returns-4
-returns-4 c = let z = by-rest (now (c .before .before .before .before .before .before .before .before .before .before .before .args .file)) (omega arith) (omega arith) (via (c .before .before .before .before .before .before .count-field .ensures) (c .before .before .before .before .before .if3 .left)) in cc
+returns-4 c =
+    let a = c .before .before .before .before .before in
+    let f = now (a .before .before .before .before .before .before .args .file) in
+    let z = by-rest f (omega arith) (omega arith) (via (a .before .count-field .ensures) (a .if3 .left)) in
+    cc
 
 pub refusal-spec : {M : Type 1} → statement M
 refusal-spec =

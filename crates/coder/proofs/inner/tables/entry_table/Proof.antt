@@ -10,7 +10,8 @@ use Rattle.coder.proofs.inner.tables.entry_table.Statement.{statement}
 use Rattle.coder.proofs.inner.tables.entry_table.Tie as tie
 
 abbrev Inv-loop : tie.InvT-loop
-Inv-loop states inputs entries offset end table₀ k₀ table k = (k ≤ end) × (end ≡ 16 * states) × Filled 256 (λ j. entryOf states inputs entries offset (j / 16) (j % 16)) k table
+Inv-loop states inputs entries offset end table₀ k₀ table k =
+    (k ≤ end) × (end ≡ 16 * states) × Filled 256 (λ j. entryOf states inputs entries offset (j / 16) (j % 16)) k table
 
 abbrev μ-loop : tie.MeasureT-loop
 μ-loop states inputs entries offset end table₀ k₀ table k = end - k
@@ -34,7 +35,10 @@ loop-less : tie.Need-loop-less Inv-loop μ-loop
 loop-less c = search needs
 
 loop-again : tie.Need-loop-again Inv-loop μ-loop
-loop-again c = let i = c .before .before .loop .inv in let l = array-write-table c in (search needs, i .1, filled-more (i .2) l (c .entry-byte .ensures))
+loop-again c =
+    let i = c .before .before .loop .inv in
+    let l = array-write-table c in
+    (search needs, i .1, filled-more (i .2) l (c .entry-byte .ensures))
 
 returns : tie.Need-returns Inv-loop μ-loop
 returns c = filled-all (c .before .loop .inv .2) (λ j l m. no-entry-from _ _ _ _ j (omega arith))

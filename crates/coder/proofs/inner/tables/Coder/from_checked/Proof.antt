@@ -22,7 +22,11 @@ from-entries-requires : tie.Need-from-entries-requires
 from-entries-requires c κs = let z = file-entries _ (c .before .before .before .before .before .pre) in cc
 
 returns : tie.Need-returns
-returns c = c .from-entries .ensures ∙ coder-is _ _ _ _ _ (c .before .before .before .before .byte .ensures .0) (c .before .before .before .byte2 .ensures .0) (c .before .before .byte3 .ensures .0) (c .before .entries .ensures)
+returns c =
+    let b = c .before .before in
+    c .from-entries .ensures
+    ∙ coder-is _ _ _ _ _ (b .before .before .byte .ensures .0) (b .before .byte2 .ensures .0) (b .byte3 .ensures .0)
+    (c .before .entries .ensures .0)
 
 pub from-checked-spec : {M : Type 1} → statement M
 from-checked-spec =
