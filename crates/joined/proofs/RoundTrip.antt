@@ -21,8 +21,8 @@ use Rattle.running.specs.declared.RunResult as run
 use Rattle.coder.proofs.Accepted.{Accepted, accepted}
 use Rattle.coder.proofs.Tables.{output-below}
 use Rattle.product.proofs.Depths.{pairs-high}
-use Rattle.least.specs.declared.Window.{Window}
-use Rattle.search.specs.Search.{searchRefusal, wanted, WindowReport, Says, RefusedSearch, FoundVerdict, SearchPromise}
+use Rattle.values.specs.declared.Window.{Window}
+use Rattle.search.specs.Search.{searchRefusal, wanted, order, WindowReport, Says, RefusedSearch, FoundVerdict, SearchPromise}
 use Rattle.search.specs.declared.SearchResult.the-variants.{Found}
 use Rattle.search.specs.declared.Verdict.{Verdict}
 use Rattle.search.specs.declared.Verdict.the-variants.{Least, NoDecoder}
@@ -49,18 +49,18 @@ outs-letters M n h s (x ∷ xs) = (h s x, outs-letters M n h (M .next s x) xs)
 
 window-report :
     (f letters letters′ : List ℕ) (w : Window) → SearchPromise f letters (Found (Least w)) letters′ →
-    WindowReport (settingOf f) w letters letters′
+    WindowReport order (settingOf f) w letters letters′
 window-report f letters letters′ w p = go (searchRefusal f (leb wanted (length letters))) p
   where
     -- the verdict of the promise is the one that was found
-    of : (v : Verdict) → Found (Least w) ≡ Found v → Says (settingOf f) v letters letters′ → WindowReport (settingOf f) w letters letters′
+    of : (v : Verdict) → Found (Least w) ≡ Found v → Says order (settingOf f) v letters letters′ → WindowReport order (settingOf f) w letters letters′
     of (Least v) e s = let z : w ≡ v = cc in rw z s
     of (NoDecoder q) e s = let z : _≡_ {A = ℕ} 0 1 = cc in absurd (omega arith)
 
     go :
         (k : ℕ) →
-        upon k (λ j. RefusedSearch j (Found (Least w)) letters letters′) (FoundVerdict (settingOf f) (Found (Least w)) letters letters′) →
-        WindowReport (settingOf f) w letters letters′
+        upon k (λ j. RefusedSearch j (Found (Least w)) letters letters′) (FoundVerdict order (settingOf f) (Found (Least w)) letters letters′) →
+        WindowReport order (settingOf f) w letters letters′
     go zero q = of (q .verdict) (q .is) (q .says)
     go (suc k) q = let e = q .is in let z : _≡_ {A = ℕ} 0 1 = cc in absurd (omega arith)
 

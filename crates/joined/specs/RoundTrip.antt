@@ -7,7 +7,7 @@ use Rattle.mealy.specs.Machine.{end}
 use Rattle.coder.specs.File.{machineOf}
 use Rattle.running.specs.declared.RunResult.{RunResult}
 use Rattle.running.specs.declared.RunResult as run
-use Rattle.least.specs.declared.Window.{Window}
+use Rattle.values.specs.declared.Window.{Window}
 use Rattle.values.specs.Window.{window}
 use Rattle.decoder.specs.Places.{places}
 use Rattle.decoder.specs.declared.CountResult.{CountResult}

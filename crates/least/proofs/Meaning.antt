@@ -8,11 +8,11 @@ use native.Mathlib.Decide.{decLt, decLe}
 use lib.ListN.{getD}
 use Rattle.mealy.specs.Setting.{Setting, Closed, flagged}
 use Rattle.mealy.specs.Window.{Works}
-use Rattle.mealy.specs.Order.{FewestLetters, Least}
+use Rattle.mealy.specs.Order.{Relation, Order, Least}
 use Rattle.mealy.specs.Product.{back, forward, Level, pairs}
 use Rattle.mealy.proofs.Levels.{down, level-start, level-fall}
 use Rattle.mealy.proofs.Windows.{Ambiguous, works→unambiguous, unambiguous→works}
-use Rattle.mealy.proofs.LeastWindows.{fewest-letters, least-need, least-sides}
+use Rattle.mealy.proofs.LeastWindows.{least-need, least-sides}
 use Rattle.mealy.proofs.Settling.{settled-by}
 use Rattle.coder.specs.Table.{machineOfCoder, Sound}
 use Rattle.coder.specs.declared.inner.tables.Coder.{Coder}
@@ -21,7 +21,7 @@ use Rattle.product.specs.Depth.{at, Depth, Depths}
 use Rattle.product.proofs.Entries.{source-at, entry-below, far-below, entries-edge, edge-entries}
 use Rattle.product.proofs.Depths.{pairs-high, start-decided, start-bounded}
 use Rattle.least.specs.Need.{Conflicting, backOf, forwardOf, Counted, Sources, Needs, Chosen}
-use Rattle.least.specs.declared.Window.{Window}
+use Rattle.values.specs.declared.Window.{Window}
 
 -- a pair that is in level k has a depth above k, or is endless
 pub depth-above : (P : ℕ → Type 0) → ((k : ℕ) → P (suc k) → P k) → (x k : ℕ) → Depth P x → P k → x < 255 → k < x
@@ -173,15 +173,17 @@ module _ (c : Coder) (flags : List ℕ) (sound : Sound c) (backs forwards : List
             omega (arith, u, w, m .1, o))
 
     -- the first of the candidates is the least window among all, whatever their sides, and its own are small
-    pub least-window : Closed S → (w : Window) → Chosen need w → Least FewestLetters S (w .before) (w .after)
-    least-window closed w h =
+    pub least-window :
+        {R : Relation} → Order R → Closed S → (w : Window) → Chosen R need w → Least R S (w .before) (w .after)
+    least-window order closed w h =
         let settled = settled-by S (start-decided c back flags sound) (start-bounded c back flags sound) in
         rw (h .is)
-        (least-need fewest-letters S closed 136 (settled forward 136 (pairs-high (c .states) (sound .states-high))) 255
+        (least-need order S closed 136 (settled forward 136 (pairs-high (c .states) (sound .states-high))) 255
         (λ a. getD need a 0) (need-is closed) (w .after) (h .lookahead) (h .finite) (λ a l m. rw (h .is) at (h .first a l m)))
 
-  pub sides-small : Closed S → (b a : ℕ) → Least FewestLetters S b a → (b ≤ pairs (c .states)) × (a ≤ pairs (c .states))
-  sides-small closed =
+  pub sides-small :
+      {R : Relation} → Order R → Closed S → (b a : ℕ) → Least R S b a → (b ≤ pairs (c .states)) × (a ≤ pairs (c .states))
+  sides-small order closed =
       let settled = settled-by S (start-decided c back flags sound) (start-bounded c back flags sound) in
       let n = pairs (c .states) in
-      least-sides S closed n n (settled back n (omega arith)) (settled forward n (omega arith))
+      least-sides order S closed n n (settled back n (omega arith)) (settled forward n (omega arith))

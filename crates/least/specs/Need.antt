@@ -6,13 +6,13 @@ use mathlib.Core.List.{List}
 use mathlib.Core.Logic.{_≢_}
 use lib.ListN.{length, getD, set}
 use lib.Dec.{ltb}
-use Rattle.mealy.specs.Order.{FewestLetters}
+use Rattle.mealy.specs.Order.{Relation}
 use Rattle.coder.specs.Table.{Sound}
 use Rattle.coder.specs.declared.inner.tables.Coder.{Coder}
 use Rattle.chains.specs.Chain.{isEntry, hasKey, lastBelow, Chained}
 use Rattle.product.specs.Depth.{at}
 use Rattle.product.specs.declared.inner.Edge.{Edge}
-use Rattle.least.specs.declared.Window.{Window}
+use Rattle.values.specs.declared.Window.{Window}
 
 -- the entries at places p and q are an edge on conflicting letters
 pub record Conflicting (c : Coder) (p q : ℕ) : Type 0 where
@@ -118,9 +118,9 @@ pub record MostPast (worst : List ℕ) (a x : ℕ) : Type 0 where
 abbrev pub Needs : List ℕ → List ℕ → Type 0
 Needs worst need = (a : ℕ) → a < 255 → MostPast worst a (getD need a 0)
 
--- the window is a candidate, and comes no later than any other candidate of lookahead up to 136
-pub record Chosen (need : List ℕ) (w : Window) : Type 0 where
+-- the window is a candidate, and comes in R no later than any other candidate of lookahead up to 136
+pub record Chosen (R : Relation) (need : List ℕ) (w : Window) : Type 0 where
   pub lookahead : w .after ≤ 136
   pub finite : getD need (w .after) 0 < 255
   pub is : w .before ≡ getD need (w .after) 0
-  pub first : (a : ℕ) → a ≤ 136 → getD need a 0 < 255 → FewestLetters (w .before) (w .after) (getD need a 0) a
+  pub first : (a : ℕ) → a ≤ 136 → getD need a 0 < 255 → R (w .before) (w .after) (getD need a 0) a

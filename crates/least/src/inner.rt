@@ -2,16 +2,17 @@
 ghost use mathlib.Core.Bool.{_&&_};
 ghost use mathlib.Core.Path.{_≡_};
 ghost use Prim.Native.Nat.{_<_, max};
+ghost use Rattle.mealy.specs.Order.{FewestLetters};
 ghost use Rattle.coder.specs.declared.inner.tables.Coder.{Coder as CoderOf};
 ghost use lib.ListN.{getD};
 ghost use lib.Dec.{eqb};
 ghost use Rattle.least.specs.Need.{raised, CountAsked, CountedOne, RowAsked, RowOf, RowDone, ConflictsAsked, ConflictsDone, Needs, Chosen};
-use crate::Window;
 use chains::inner::wide;
 use coder::inner::bytes::number;
 use coder::inner::letters::conflict;
 use coder::inner::tables::Coder;
 use product::inner::Edge;
+use values::Window;
 
 // Takes x in at place f of the table: the larger of the two stays.
 fn raise(worst: &mut [u8; 256], f: usize, x: u8)
@@ -138,7 +139,7 @@ fn larger(x: u8, y: u8) -> u8
 // The first of the candidates: fewest letters, and of equally many least lookahead.
 pub fn choose(need: &[u8; 256]) -> Window
     requires { ⌜ getD (now need) 136 0 < 255 ⌝ }
-    ensures { λ r. ⌜ Chosen (now (need .entry)) r ⌝ }
+    ensures { λ r. ⌜ Chosen FewestLetters (now (need .entry)) r ⌝ }
 {
     let mut before = number(need[136]);
     let mut after = 136;

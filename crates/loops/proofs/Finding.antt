@@ -23,9 +23,10 @@ use Rattle.product.specs.Entries.{sources}
 use Rattle.product.specs.declared.inner.Edge as product
 use Rattle.product.proofs.Entries.{entries-edge, source-at, entry-below, far-below}
 use Rattle.loops.specs.Walk.{entryOf, after, Followable, Repeats, placeOf, Wrote}
-use Rattle.loops.specs.Pair.{pairOf, EndlessConflict, FindFrom, FoundPair}
+use Rattle.loops.specs.Pair.{EndlessConflict, FindFrom, FoundPair}
 use Rattle.loops.specs.declared.inner.Return.{Return}
-use Rattle.loops.specs.declared.LoopedPair.{LoopedPair}
+use Rattle.values.specs.Pair.{pairOf}
+use Rattle.values.specs.declared.LoopedPair.{LoopedPair}
 use Rattle.loops.proofs.Writing.{setTwo, two-size, two-other, two-first, two-second}
 use Rattle.loops.proofs.Endless.{parts, Endless, endless-pair, endless-start, endless-after}
 use Rattle.loops.proofs.Endless.{walk-follows, walk-step, steps-bound, steps-high}

@@ -13,20 +13,8 @@ use Rattle.chains.specs.Chain.{isEntry}
 use Rattle.product.specs.Depth.{at}
 use Rattle.product.specs.Rounds.{DepthsFound}
 use Rattle.product.specs.declared.inner.Edge.{Edge}
-use Rattle.loops.specs.declared.LoopedPair.{LoopedPair}
-
--- The pair of the theory: starts and lengths from the answer, letters from the buffer's bytes.
-abbrev pub pairOf : LoopedPair → List ℕ → mealy.LoopedPair
-pairOf r bytes =
-    record {
-      s = r .s;
-      t = r .t;
-      back-loop = r .«back_loop»;
-      lead-in = r .«lead_in»;
-      lead-out = r .«lead_out»;
-      forward-loop = r .«forward_loop»;
-      bytes = bytes;
-    }
+use Rattle.values.specs.Pair.{pairOf}
+use Rattle.values.specs.declared.LoopedPair.{LoopedPair}
 
 -- The edge e has conflicting letters, and leads from a pair that is endless back to one that is endless forward.
 pub record EndlessConflict (c : Coder) (flags : List ℕ) (backs forwards : List (List ℕ)) (e : Edge) : Type 0 where

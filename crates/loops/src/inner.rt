@@ -7,11 +7,11 @@ ghost use mathlib.Core.List.{List};
 ghost use Prim.Native.Nat.{ℕ, _+_, _*_, _<_, _≤_};
 ghost use Rattle.loops.specs.Walk.{step as stepOf, after, Followable, Repeats, placeOf, WriteAsked, Wrote};
 ghost use Rattle.loops.specs.Pair.{FindFrom, FindAsked, FoundPair};
-use crate::LoopedPair;
 use chains::inner::wide;
 use coder::inner::bytes::number;
 use coder::inner::tables::Coder;
 use product::inner::Edge;
+use values::LoopedPair;
 
 // A walk that comes back: after `steps` steps it is at the pair where it was after `lead` steps.
 pub struct Return {

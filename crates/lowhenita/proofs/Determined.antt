@@ -8,7 +8,7 @@ use Prim.Native.Nat.{ℕ, zero, suc}
 use lib.ListN.{length, take, drop}
 use Rattle.mealy.specs.Answer.{byteOf}
 use Rattle.mealy.specs.LoopedPair.{LoopedPair}
-use Rattle.mealy.proofs.LeastWindows.{least-unique, fewest-letters}
+use Rattle.mealy.proofs.LeastWindows.{least-unique}
 use Rattle.coder.specs.Refusal.{upon}
 use Rattle.coder.specs.File.{outputsOf, settingOf}
 use Rattle.values.specs.Window.{size}
@@ -19,8 +19,9 @@ use Rattle.decoder.specs.Refusal.{tableSize}
 use Rattle.decoder.specs.Places.{places, ByteAt}
 use Rattle.decoder.specs.Table.{windowAt, EntryOf}
 use Rattle.decoder.proofs.Determined.{bytes-determined}
-use Rattle.loops.specs.declared.LoopedPair as loops
-use Rattle.search.specs.Search.{Says, PairReport}
+use Rattle.values.specs.declared.LoopedPair as values
+use Rattle.search.specs.Search.{order, Says, PairReport}
+use Rattle.search.proofs.Determined.{is-order}
 use Rattle.search.specs.declared.Verdict.{Verdict}
 use Rattle.search.specs.declared.Verdict.the-variants.{Least, NoDecoder}
 use Rattle.checker.proofs.Judging.{judges-same}
@@ -40,7 +41,7 @@ run-determined f s xs before result r q after after₂ result′ result₂ h k =
 
 -- the outcome is a looped pair that the search may give
 pub record PairGiven (f before result after result′ : List ℕ) : Type 0 where
-  pub pair : loops.LoopedPair
+  pub pair : values.LoopedPair
   pub report : PairReport (settingOf f) pair before after
   pub fields : result′ ≡ withFields result (verdictFields (NoDecoder pair))
 
@@ -52,10 +53,10 @@ module _ (f before result after after₂ result′ result₂ : List ℕ) where
       ⊎ (PairGiven f before result after result′ × PairGiven f before result after₂ result₂)
 
   verdicts :
-      (v u : Verdict) → Says (settingOf f) v before after → Says (settingOf f) u before after₂ →
+      (v u : Verdict) → Says order (settingOf f) v before after → Says order (settingOf f) u before after₂ →
       result′ ≡ withFields result (verdictFields v) → result₂ ≡ withFields result (verdictFields u) → SameButPair
   verdicts (Least w) (Least x) p q d e =
-      let same = least-unique fewest-letters (settingOf f) _ _ _ _ (p .least) (q .least) in
+      let same = least-unique is-order (settingOf f) _ _ _ _ (p .least) (q .least) in
       inl (p .stays ∙ sym (q .stays), d ∙ ap₂ (λ (b a : ℕ). withFields result (0 ∷ b ∷ a ∷ [])) (same .0) (same .1) ∙ sym e)
   verdicts (Least w) (NoDecoder x) p q d e = absurd (q .none _ _ (p .least .works))
   verdicts (NoDecoder w) (Least x) p q d e = absurd (p .none _ _ (q .least .works))

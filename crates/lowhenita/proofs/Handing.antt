@@ -29,7 +29,7 @@ use Rattle.decoder.specs.declared.CountResult.the-variants.{Refused as CountRef
 use Rattle.decoder.specs.declared.WindowResult.{WindowResult}
 use Rattle.decoder.specs.declared.WindowResult.the-variants.{Refused as WindowRefused, Answered}
 use Rattle.decoder.proofs.Accepting.{window-accepted, string-others, table-others}
-use Rattle.search.specs.Search.{searchRefusal, wanted, Says, FoundVerdict, RefusedSearch, SearchPromise}
+use Rattle.search.specs.Search.{searchRefusal, wanted, order, Says, FoundVerdict, RefusedSearch, SearchPromise}
 use Rattle.search.specs.declared.Verdict.{Verdict}
 use Rattle.search.specs.declared.SearchResult.{SearchResult}
 use Rattle.search.specs.declared.SearchResult.the-variants.{Refused as SearchRefused, Found}
@@ -119,14 +119,14 @@ module _ (f : List ℕ) (s : ℕ) (xs before result : List ℕ) where
 module _ (f before result : List ℕ) where
   search-told :
       (n k : ℕ) {r : SearchResult} {after : List ℕ} → r ≡ SearchRefused k →
-      upon n (λ j. RefusedSearch j r before after) (FoundVerdict (settingOf f) r before after) → Refuses k n × (after ≡ before)
+      upon n (λ j. RefusedSearch j r before after) (FoundVerdict order (settingOf f) r before after) → Refuses k n × (after ≡ before)
   search-told zero k e p = let q = p .is in differ (cc)
   search-told (suc n) k e p = let q = p .is in (record { is = cc; some = λ z. absurd (omega arith) }, p .stays)
 
   search-given :
       (n : ℕ) (v : Verdict) (after : List ℕ) {r : SearchResult} → r ≡ Found v →
-      upon n (λ j. RefusedSearch j r before after) (FoundVerdict (settingOf f) r before after) →
-      (n ≡ 0) × Says (settingOf f) v before after
+      upon n (λ j. RefusedSearch j r before after) (FoundVerdict order (settingOf f) r before after) →
+      (n ≡ 0) × Says order (settingOf f) v before after
   search-given zero v after e p = let q = p .is in let same : p .verdict ≡ v = cc in (refl, rw same at (p .says))
   search-given (suc n) v after e p = let q = p .is in differ (cc)
 

@@ -1,18 +1,27 @@
 -- The least window that works: from the candidates to all windows, in any order of windows; it is unique; it exists where some
 -- window works.
-use mathlib.Core.Path.{_≡_, refl}
-use mathlib.Core.Logic.{_↔_, Dec·and}
-use Prim.Native.Nat.{ℕ, zero, suc, _+_, _-_, _≤_, _<_}
+use mathlib.Core.Path.{_≡_}
+use mathlib.Core.Logic.{_↔_, _⊎_, inl, inr, ⊎-elim}
+use Prim.Native.Nat.{ℕ, zero, suc, _+_, _≤_, _<_}
 use native.Mathlib.Omega.{arith}
-use native.Mathlib.Decide.{decLe}
+use native.Mathlib.Decide.{decLe, ℕ-discrete}
 use Rattle.mealy.specs.Setting.{Setting, Closed, Bounded}
 use Rattle.mealy.specs.Window.{Works}
 use Rattle.mealy.specs.Order.{Relation, Order, FewestLetters, Least}
-use Rattle.mealy.specs.Product.{back, forward, Settled}
+use Rattle.mealy.specs.Product.{Direction, back, forward, Settled, pairs}
 use Rattle.mealy.proofs.Windows.{works-settled, works-settled-back}
+use Rattle.mealy.proofs.Settling.{settled-by}
 use Rattle.mealy.proofs.Decisions.{dec-below, dec-works}
 
 -- ---- in any order
+
+-- the least number with P, from one with P that is at most n
+least-number : (P : ℕ → Type 0) → ((m : ℕ) → Dec (P m)) → (n m : ℕ) → m ≤ n → P m → (l : ℕ) × P l × ((k : ℕ) → P k → l ≤ k)
+least-number P d zero m e p = (m, p, λ k q. omega arith)
+least-number P d (suc n) m e p = elim (dec-below m P d) [
+  | yes z ↦ least-number P d n (z .0) (omega arith) (z .2)
+  | no z ↦ (m, p, λ k q. elim (decLe m k) [ yes l ↦ l | no l ↦ absurd (z (k, omega arith, q)) ])
+]
 
 module _ {R : Relation} (order : Order R) (S : Setting) where
   pub least-unique : (b a b′ a′ : ℕ) → Least R S b a → Least R S b′ a′ → (b ≡ b′) × (a ≡ a′)
@@ -43,6 +52,118 @@ module _ {R : Relation} (order : Order R) (S : Setting) where
       pub none-need : top ≤ need L → (b a : ℕ) → Works S b a → ⊥
       none-need l b a f = let z = is b L (omega arith) .0 (works-settled S closed L settled b a f) in omega arith
 
+  -- no side of the least window is past the level where the levels of that side have settled
+  pub least-sides :
+      Closed S → (K L : ℕ) → Settled S back K → Settled S forward L → (b a : ℕ) → Least R S b a → (b ≤ K) × (a ≤ L)
+  least-sides closed K L settledK settledL b a l = (
+    elim (decLe b K) [
+      | yes m ↦ m
+      | no m ↦ (let p = l .least K a (works-settled-back S closed K settledK b a (l .works)) in
+          let e = order .antisymmetric b a K a p (order .larger K a b a (omega arith) (omega arith)) in
+          omega (arith, e .0))
+    ],
+    elim (decLe a L) [
+      | yes m ↦ m
+      | no m ↦ (let p = l .least b L (works-settled S closed L settledL b a (l .works)) in
+          let e = order .antisymmetric b a b L p (order .larger b L b a (omega arith) (omega arith)) in
+          omega (arith, e .1))
+    ],
+  )
+
+  module _ (closed : Closed S) (decideStart : (s : ℕ) → Dec (S .Start s)) (bounded : Bounded S)
+      (decideConflict : (i j : ℕ) → Dec (S .Conflict i j)) where
+    -- the level from which on the levels of both directions have settled
+    abbrev K : ℕ
+    K = pairs (S .M .states)
+
+    settled : (d : Direction) → Settled S d K
+    settled d = settled-by S decideStart bounded d K (omega arith)
+
+    -- it works, and is least of the windows of lookahead below n
+    record LeastBelow (n b a : ℕ) : Type 0 where
+      pub works : Works S b a
+      pub least : (b′ a′ : ℕ) → a′ < n → Works S b′ a′ → R b a b′ a′
+
+    abbrev SomeBelow : ℕ → Type 0
+    SomeBelow n = (b : ℕ) × (a : ℕ) × LeastBelow n b a
+
+    abbrev NoneBelow : ℕ → Type 0
+    NoneBelow n = (b a : ℕ) → a < n → Works S b a → ⊥
+
+    -- of two windows that work, with the first least below n and the second with fewest letters before of lookahead n, the first in R
+    -- is least below n + 1
+    below-more :
+        (n b a x : ℕ) → LeastBelow n b a → Works S x n → ((b′ : ℕ) → Works S b′ n → x ≤ b′) → SomeBelow (suc n)
+    below-more n b a x l w fewest = elim (order .total b a x n) [
+      | inl r ↦ (
+        b,
+        a,
+        record {
+          works = l .works;
+          least = λ b′ a′ m f. elim (ℕ-discrete a′ n) [
+            | yes e ↦ rw e (order .transitive b a x n b′ n r (order .larger x n b′ n (fewest b′ (rw e at f)) (omega arith)))
+            | no e ↦ l .least b′ a′ (omega arith) f
+          ];
+        },
+      )
+      | inr r ↦ (
+        x,
+        n,
+        record {
+          works = w;
+          least = λ b′ a′ m f. elim (ℕ-discrete a′ n) [
+            | yes e ↦ rw e (order .larger x n b′ n (fewest b′ (rw e at f)) (omega arith))
+            | no e ↦ order .transitive x n b a b′ a′ r (l .least b′ a′ (omega arith) f)
+          ];
+        },
+      )
+    ]
+
+    below : (n : ℕ) → SomeBelow n ⊎ NoneBelow n
+    below zero = inr (λ b a l f. omega arith)
+    below (suc n) = elim (dec-works S decideStart bounded closed decideConflict K n) [
+      | no no-window ↦
+          let none : (b′ : ℕ) → Works S b′ n → ⊥ = λ b′ f. no-window (works-settled-back S closed K (settled back) b′ n f) in
+          ⊎-elim
+          (λ s. inl (
+            s .0,
+            s .1,
+            record {
+              works = s .2 .works;
+              least = λ b′ a′ m f. elim (ℕ-discrete a′ n) [
+                | yes e ↦ absurd (none b′ (rw e at f))
+                | no e ↦ s .2 .least b′ a′ (omega arith) f
+              ];
+            },
+          ))
+          (λ z. inr (λ b′ a′ m f. elim (ℕ-discrete a′ n) [ yes e ↦ none b′ (rw e at f) | no e ↦ z b′ a′ (omega arith) f ]))
+          (below n)
+      | yes w ↦
+          let x = least-number (λ b. Works S b n) (λ b. dec-works S decideStart bounded closed decideConflict b n) K K (omega arith) w in
+          ⊎-elim
+          (λ s. inl (below-more n (s .0) (s .1) (x .0) (s .2) (x .1) (x .2)))
+          (λ z. inl (
+            x .0,
+            n,
+            record {
+              works = x .1;
+              least = λ b′ a′ m f. elim (ℕ-discrete a′ n) [
+                | yes e ↦ rw e (order .larger (x .0) n b′ n (x .2 b′ (rw e at f)) (omega arith))
+                | no e ↦ absurd (z b′ a′ (omega arith) f)
+              ];
+            },
+          ))
+          (below n)
+    ]
+
+    -- where some window works there is a least one
+    pub least-exists : (b a : ℕ) → Works S b a → (b : ℕ) × (a : ℕ) × Least R S b a
+    least-exists b a f =
+        ⊎-elim
+        (λ s. (s .0, s .1, least-among closed K (settled forward) (s .0) (s .1) (s .2 .works) (λ b′ a′ l h. s .2 .least b′ a′ (omega arith) h)))
+        (λ z. absurd (z b K (omega arith) (works-settled S closed K (settled forward) b a f)))
+        (below (suc K))
+
 -- ---- fewest letters, then least lookahead
 
 pub fewest-letters : Order FewestLetters
@@ -56,48 +177,14 @@ fewest-letters = record {
       let l = p .tie (omega arith) in
       let m = q .tie (omega arith) in
       omega arith;
+  total = λ b a b′ a′. elim (decLe (b + 1 + a) (b′ + 1 + a′)) [
+    | no l ↦ inr (record { fewer = omega arith; tie = λ e. absurd (omega arith) })
+    | yes l ↦ elim (decLe (b′ + 1 + a′) (b + 1 + a)) [
+      | no m ↦ inl (record { fewer = l; tie = λ e. absurd (omega arith) })
+      | yes m ↦ elim (decLe a a′) [
+        | yes n ↦ inl (record { fewer = l; tie = λ e. n })
+        | no n ↦ inr (record { fewer = m; tie = λ e. omega arith })
+      ]
+    ]
+  ];
 }
-
--- no side of the least window is past the level where the levels of that side have settled
-pub least-sides :
-    (S : Setting) → Closed S → (K L : ℕ) → Settled S back K → Settled S forward L → (b a : ℕ) → Least FewestLetters S b a →
-    (b ≤ K) × (a ≤ L)
-least-sides S closed K L settledK settledL b a l =
-    let p = l .least K a (works-settled-back S closed K settledK b a (l .works)) in
-    let q = l .least b L (works-settled S closed L settledL b a (l .works)) in
-    (omega (arith, p .fewer), omega (arith, q .fewer))
-
--- the least number with P, from one with P that is at most n
-least-number : (P : ℕ → Type 0) → ((m : ℕ) → Dec (P m)) → (n m : ℕ) → m ≤ n → P m → (l : ℕ) × P l × ((k : ℕ) → P k → l ≤ k)
-least-number P d zero m e p = (m, p, λ k q. omega arith)
-least-number P d (suc n) m e p = elim (dec-below m P d) [
-  | yes z ↦ least-number P d n (z .0) (omega arith) (z .2)
-  | no z ↦ (m, p, λ k q. elim (decLe m k) [ yes l ↦ l | no l ↦ absurd (z (k, omega arith, q)) ])
-]
-
-module _ (S : Setting) (closed : Closed S) (decideStart : (s : ℕ) → Dec (S .Start s)) (bounded : Bounded S)
-    (decideConflict : (i j : ℕ) → Dec (S .Conflict i j)) where
-  -- of the windows of n + 1 letters, that with lookahead a works
-  abbrev Sized : ℕ → ℕ → Type 0
-  Sized n a = (a ≤ n) × Works S (n - a) a
-
-  dec-sized : (n a : ℕ) → Dec (Sized n a)
-  dec-sized n a = Dec·and (decLe a n) (dec-works S decideStart bounded closed decideConflict (n - a) a)
-
-  sized-of : (b a n : ℕ) → b + a ≡ n → Works S b a → Sized n a
-  sized-of b a n e f = let q : b ≡ n - a = omega arith in (omega arith, rw q at f)
-
-  -- where some window works there is a least one
-  pub least-exists : (b a : ℕ) → Works S b a → (b : ℕ) × (a : ℕ) × Least FewestLetters S b a
-  least-exists b a f =
-      let x = least-number (λ n. (a : ℕ) × (a < suc n) × Sized n a) (λ n. dec-below (suc n) (Sized n) (dec-sized n)) (b + a) (b + a) (omega arith) (a, omega arith, sized-of b a (b + a) refl f) in
-      let n = x .0 in
-      let y = least-number (Sized n) (dec-sized n) n (x .1 .0) (omega arith) (x .1 .2) in (
-        n - y .0,
-        y .0,
-        record {
-          works = y .1 .1;
-          least = λ b′ a′ g. let l = x .2 (b′ + a′) (a′, omega arith, sized-of b′ a′ (b′ + a′) refl g) in
-              record { fewer = omega arith; tie = λ e. y .2 a′ (sized-of b′ a′ n (omega arith) g) };
-        },
-      )

@@ -7,7 +7,7 @@ use lib.ListN.{getD}
 use Rattle.mealy.specs.Machine.{Machine, Total}
 use Rattle.mealy.specs.Setting.{Closed, Bounded, anyState}
 use Rattle.mealy.specs.Window.{Works, SameLetter}
-use Rattle.mealy.specs.Order.{FewestLetters, Least}
+use Rattle.mealy.specs.Order.{Relation, Order, Least}
 use Rattle.mealy.specs.Product.{pairs}
 use Rattle.mealy.proofs.Decisions.{dec-works}
 use Rattle.mealy.proofs.Settling.{some-or-none}
@@ -39,8 +39,10 @@ module _ (M : Machine) where
     pub any-works : (b a : ℕ) → Dec (Works (anyState M) b a)
     any-works = dec-works (anyState M) any-start any-bounded any-closed any-conflict
 
-    pub least-or-none : ((b : ℕ) × (a : ℕ) × Least FewestLetters (anyState M) b a) ⊎ ((b a : ℕ) → Works (anyState M) b a → ⊥)
-    least-or-none = elim (some-or-none (anyState M) any-start any-bounded any-closed any-conflict) [
-      | inl w ↦ inl (least-exists (anyState M) any-closed any-start any-bounded any-conflict (pairs (M .states)) (pairs (M .states)) w)
+    pub least-or-none :
+        {R : Relation} → Order R →
+        ((b : ℕ) × (a : ℕ) × Least R (anyState M) b a) ⊎ ((b a : ℕ) → Works (anyState M) b a → ⊥)
+    least-or-none order = elim (some-or-none (anyState M) any-start any-bounded any-closed any-conflict) [
+      | inl w ↦ inl (least-exists order (anyState M) any-closed any-start any-bounded any-conflict (pairs (M .states)) (pairs (M .states)) w)
       | inr f ↦ inr f
     ]

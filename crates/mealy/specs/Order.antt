@@ -1,6 +1,7 @@
 -- The order of windows, and the least window that works.
 use Prim.Native.Nat.{ℕ, _+_, _≤_}
 use mathlib.Core.Path.{_≡_}
+use mathlib.Core.Logic.{_⊎_}
 use Rattle.mealy.specs.Setting.{Setting}
 use Rattle.mealy.specs.Window.{Works}
 
@@ -8,11 +9,12 @@ use Rattle.mealy.specs.Window.{Works}
 abbrev pub Relation : Type 1
 Relation = ℕ → ℕ → ℕ → ℕ → Type 0
 
--- An order in which a larger side is never better.
+-- A total order in which a larger side is never better.
 pub record Order (R : Relation) : Type 0 where
   pub larger : (b a b′ a′ : ℕ) → b ≤ b′ → a ≤ a′ → R b a b′ a′
   pub transitive : (b a b′ a′ b″ a″ : ℕ) → R b a b′ a′ → R b′ a′ b″ a″ → R b a b″ a″
   pub antisymmetric : (b a b′ a′ : ℕ) → R b a b′ a′ → R b′ a′ b a → (b ≡ b′) × (a ≡ a′)
+  pub total : (b a b′ a′ : ℕ) → R b a b′ a′ ⊎ R b′ a′ b a
 
 -- The order of demand 3's last sentence ("Coders and runs" says it of the reported window): fewer letters, and of equally many
 -- less lookahead.

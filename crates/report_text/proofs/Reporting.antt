@@ -15,9 +15,9 @@ use Rattle.coder.specs.declared.Header.the-variants.{Refused, Counts}
 use Rattle.coder.proofs.Refusals.{upon-refused, upon-done}
 use Rattle.coder.proofs.Accepted.{accepted}
 use Rattle.product.proofs.Depths.{pairs-high}
-use Rattle.least.specs.declared.Window.{Window}
-use Rattle.loops.specs.declared.LoopedPair.{LoopedPair}
-use Rattle.search.specs.Search.{searchRefusal, wanted, Says, WindowReport, PairReport, FoundVerdict, SearchPromise}
+use Rattle.values.specs.declared.Window.{Window}
+use Rattle.values.specs.declared.LoopedPair.{LoopedPair}
+use Rattle.search.specs.Search.{searchRefusal, wanted, order, Says, WindowReport, PairReport, FoundVerdict, SearchPromise}
 use Rattle.search.specs.declared.SearchResult.{SearchResult}
 use Rattle.search.specs.declared.SearchResult.the-variants.{Refused as RefusedSearch, Found}
 use Rattle.search.specs.declared.Verdict.{Verdict}
@@ -124,13 +124,13 @@ module _ (f before after : List ℕ) (ok : fileRefusal f ≡ 0) (long : wanted �
   unfolding searchRefusal
   not-refused = let l : wanted ≤ length before = omega arith in rw (ok, le-leb wanted (length before) l)
 
-  found : {r : SearchResult} → SearchPromise f before r after → FoundVerdict (settingOf f) r before after
+  found : {r : SearchResult} → SearchPromise f before r after → FoundVerdict order (settingOf f) r before after
   found p = rw not-refused at p
 
   pub never-refused : {r : SearchResult} {k : ℕ} → SearchPromise f before r after → r ≡ RefusedSearch k → ⊥
   never-refused p e = let g = found p in let d = g .is in let z : _≡_ {A = ℕ} 0 1 = cc in absurd (omega arith)
 
-  says : {r : SearchResult} {v : Verdict} → SearchPromise f before r after → r ≡ Found v → Says (settingOf f) v before after
+  says : {r : SearchResult} {v : Verdict} → SearchPromise f before r after → r ≡ Found v → Says order (settingOf f) v before after
   says {r} {v} p e =
       let g = found p in
       let d = g .is in
@@ -139,7 +139,7 @@ module _ (f before after : List ℕ) (ok : fileRefusal f ≡ 0) (long : wanted �
 
   window-found :
       {r : SearchResult} {v : Verdict} {w : Window} → SearchPromise f before r after → r ≡ Found v → v ≡ Least w →
-      WindowReport (settingOf f) w before after
+      WindowReport order (settingOf f) w before after
   window-found p e d = rw d at (says p e)
 
   pair-found :

@@ -4,10 +4,11 @@ use mathlib.Core.Path.{_≡_}
 use mathlib.Core.List.{List, [], _∷_, _++_}
 use Rattle.mealy.specs.Setting.{Setting}
 use Rattle.mealy.specs.Window.{Works}
-use Rattle.mealy.specs.Order.{FewestLetters, Least}
+use Rattle.mealy.specs.Order.{Least}
 use Rattle.coder.specs.Refusal.{upon}
 use Rattle.text.specs.Decimal.{decimal}
 use Rattle.coder.specs.File.{fileRefusal, statesOf, inputsOf, outputsOf, settingOf}
+use Rattle.search.specs.Search.{order}
 
 -- ---- words, in ASCII
 
@@ -49,7 +50,7 @@ noDecoderLine = 110 ∷ 111 ∷ 32 ∷ 100 ∷ 101 ∷ 99 ∷ 111 ∷ 100 ∷ 10
 
 -- Which second line is right: that of the least window that works, or that of no decoder where no window works.
 pub data SecondLine (S : Setting) : List ℕ → Type 0 where
-  a-window : (b a : ℕ) → Least FewestLetters S b a → SecondLine S (windowLine b a)
+  a-window : (b a : ℕ) → Least order S b a → SecondLine S (windowLine b a)
   no-window : ((b a : ℕ) → Works S b a → ⊥) → SecondLine S noDecoderLine
 
 -- The text is this first line, and the right second line behind it.

@@ -8,15 +8,20 @@ use lib.ListN.{length}
 use lib.Dec.{leb}
 use Rattle.mealy.specs.Setting.{Setting}
 use Rattle.mealy.specs.Window.{Works}
+use Rattle.mealy.specs.Order.{Relation, Order}
 use Rattle.mealy.proofs.LeastWindows.{least-unique, fewest-letters}
 use Rattle.coder.specs.Refusal.{upon}
 use Rattle.coder.specs.File.{settingOf}
-use Rattle.least.specs.declared.Window.{Window}
-use Rattle.search.specs.Search.{searchRefusal, wanted, Says, FoundVerdict, RefusedSearch, SearchPromise}
+use Rattle.values.specs.Window.{window}
+use Rattle.values.specs.declared.Window.{Window}
+use Rattle.search.specs.Search.{searchRefusal, wanted, order, Says, FoundVerdict, RefusedSearch, SearchPromise}
 use Rattle.search.specs.declared.Verdict.{Verdict}
 use Rattle.search.specs.declared.Verdict.the-variants.{Least, NoDecoder}
 use Rattle.search.specs.declared.SearchResult.{SearchResult}
 use Rattle.search.specs.declared.SearchResult.the-variants.{Refused, Found}
+
+pub is-order : Order order
+is-order = fewest-letters
 
 -- ---- "no decoder" exactly when no window works
 
@@ -31,17 +36,18 @@ IsNoDecoder (Refused k) = ⊥
 IsNoDecoder (Found v) = IsPair v
 
 pair-exactly :
-    (S : Setting) (v : Verdict) (before after : List ℕ) → Says S v before after → IsPair v ↔ ((b a : ℕ) → Works S b a → ⊥)
-pair-exactly S (Least w) before after h = (λ x. absurd x, λ none. none (w .before) (w .after) (h .least .works))
-pair-exactly S (NoDecoder p) before after h = (λ x. h .none, λ none. tt)
+    (R : Relation) (S : Setting) (v : Verdict) (before after : List ℕ) → Says R S v before after →
+    IsPair v ↔ ((b a : ℕ) → Works S b a → ⊥)
+pair-exactly R S (Least w) before after h = (λ x. absurd x, λ none. none (w .before) (w .after) (h .least .works))
+pair-exactly R S (NoDecoder p) before after h = (λ x. h .none, λ none. tt)
 
 -- Demand 3, first sentence: a search that is not refused says "no decoder" exactly when no window works, whatever its sides.
 pub no-decoder-exactly :
     (f before : List ℕ) (r : SearchResult) (after : List ℕ) → searchRefusal f (leb wanted (length before)) ≡ 0 →
     SearchPromise f before r after → IsNoDecoder r ↔ ((b a : ℕ) → Works (settingOf f) b a → ⊥)
 no-decoder-exactly f before r after e h =
-    let g : FoundVerdict (settingOf f) r before after = rw e at h in
-    rw (g .is) (pair-exactly (settingOf f) (g .verdict) before after (g .says))
+    let g : FoundVerdict order (settingOf f) r before after = rw e at h in
+    rw (g .is) (pair-exactly order (settingOf f) (g .verdict) before after (g .says))
 
 -- ---- two outcomes of one call
 
@@ -60,21 +66,18 @@ SameButPair (Refused k) after (Found v′) after′ = ⊥
 SameButPair (Found v) after (Refused k′) after′ = ⊥
 SameButPair (Found v) after (Found v′) after′ = SameVerdict v after v′ after′
 
-abbrev windowOf : ℕ → ℕ → Window
-windowOf b a = record { before = b; after = a }
-
 window-same : (w w′ : Window) → w .before ≡ w′ .before → w .after ≡ w′ .after → w ≡ w′
-window-same w w′ e d = ap₂ windowOf e d
+window-same w w′ e d = ap₂ window e d
 
 verdict-determined :
-    (S : Setting) (before : List ℕ) (v v′ : Verdict) (after after′ : List ℕ) → Says S v before after →
-    Says S v′ before after′ → SameVerdict v after v′ after′
-verdict-determined S before (Least w) (Least w′) after after′ p q =
-    let e = least-unique fewest-letters S (w .before) (w .after) (w′ .before) (w′ .after) (p .least) (q .least) in
+    {R : Relation} → Order R → (S : Setting) (before : List ℕ) (v v′ : Verdict) (after after′ : List ℕ) → Says R S v before after →
+    Says R S v′ before after′ → SameVerdict v after v′ after′
+verdict-determined o S before (Least w) (Least w′) after after′ p q =
+    let e = least-unique o S (w .before) (w .after) (w′ .before) (w′ .after) (p .least) (q .least) in
     (window-same w w′ (e .0) (e .1), p .stays ∙ sym (q .stays))
-verdict-determined S before (Least w) (NoDecoder p′) after after′ p q = q .none (w .before) (w .after) (p .least .works)
-verdict-determined S before (NoDecoder p₀) (Least w′) after after′ p q = p .none (w′ .before) (w′ .after) (q .least .works)
-verdict-determined S before (NoDecoder p₀) (NoDecoder p′) after after′ p q = p .size ∙ sym (q .size)
+verdict-determined o S before (Least w) (NoDecoder p′) after after′ p q = q .none (w .before) (w .after) (p .least .works)
+verdict-determined o S before (NoDecoder p₀) (Least w′) after after′ p q = p .none (w′ .before) (w′ .after) (q .least .works)
+verdict-determined o S before (NoDecoder p₀) (NoDecoder p′) after after′ p q = p .size ∙ sym (q .size)
 
 -- Two outcomes that meet the promise for the same arguments are equal but for which looped pair is given, and its bytes.
 pub search-determined :
@@ -88,7 +91,7 @@ search-determined f before r r′ after after′ = go (searchRefusal f (leb want
     go zero e p q =
         let x = rw e at p in
         let y = rw e at q in
-        rw (x .is) (rw (y .is) (verdict-determined (settingOf f) before (x .verdict) (y .verdict) after after′ (x .says) (y .says)))
+        rw (x .is) (rw (y .is) (verdict-determined is-order (settingOf f) before (x .verdict) (y .verdict) after after′ (x .says) (y .says)))
     go (suc k) e p q =
         let x = rw e at p in
         let y = rw e at q in

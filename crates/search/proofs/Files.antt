@@ -9,7 +9,6 @@ use lib.ListN.{getD, replicate, getD-replicate}
 use lib.Dec.{lit<}
 use Rattle.mealy.specs.Machine.{Machine}
 use Rattle.mealy.specs.Setting.{Closed, anyState, flagged}
-use Rattle.mealy.specs.Order.{FewestLetters}
 use Rattle.mealy.proofs.Plain.{any-closed}
 use Rattle.mealy.proofs.LoopedPairs.{turned-runs, excludes}
 use Rattle.mealy.proofs.Starts.{least-starts, valid-starts}
@@ -20,8 +19,8 @@ use Rattle.coder.specs.declared.inner.tables.Coder.{Coder}
 use Rattle.coder.proofs.Refusals.{refuse-not, first-none}
 use Rattle.coder.proofs.Accepted.{Accepted}
 use Rattle.coder.proofs.Tables.{machine-same, sound-coder, total}
-use Rattle.loops.specs.Pair.{pairOf}
-use Rattle.search.specs.Search.{searchRefusal, Says}
+use Rattle.values.specs.Pair.{pairOf}
+use Rattle.search.specs.Search.{searchRefusal, order, Says}
 use Rattle.search.specs.declared.Verdict.{Verdict}
 use Rattle.search.specs.declared.Verdict.the-variants.{Least, NoDecoder}
 
@@ -40,9 +39,9 @@ module _ (M : Machine) (high : M .states ≤ 16) where
   closed-ones : Closed (anyState M) → Closed (flagged M ones)
   closed-ones closed s i p l = flag-one _ (closed s i (p .0) l)
 
-  says-any : Closed (anyState M) → (v : Verdict) (before after : List ℕ) → Says (flagged M ones) v before after → Says (anyState M) v before after
+  says-any : Closed (anyState M) → (v : Verdict) (before after : List ℕ) → Says order (flagged M ones) v before after → Says order (anyState M) v before after
   says-any closed (Least w) before after r = record {
-    least = least-starts M (λ i j. i ≢ j) flag-out flag-one FewestLetters (w .before) (w .after) (r .least);
+    least = least-starts M (λ i j. i ≢ j) flag-out flag-one order (w .before) (w .after) (r .least);
     before-small = r .before-small;
     after-small = r .after-small;
     stays = r .stays;
@@ -76,9 +75,9 @@ module _ {c : Coder} {f : List ℕ} (e : c ≡ coderOf f) (a : Accepted f) where
   pub coder-closed : Closed (flagged (machineOfCoder c) ones)
   coder-closed = closed-ones (machineOfCoder c) (coder-sound .states-high) closed-coder
 
-  pub says-file : (v : Verdict) (before after : List ℕ) → Says (flagged (machineOfCoder c) ones) v before after → Says (settingOf f) v before after
+  pub says-file : (v : Verdict) (before after : List ℕ) → Says order (flagged (machineOfCoder c) ones) v before after → Says order (settingOf f) v before after
   says-file v before after s =
-      subst (λ (M : Machine). Says (anyState M) v before after) same (says-any (machineOfCoder c) (coder-sound .states-high) closed-coder v before after s)
+      subst (λ (M : Machine). Says order (anyState M) v before after) same (says-any (machineOfCoder c) (coder-sound .states-high) closed-coder v before after s)
 
 -- ---- what a search that is not refused relies on
 

@@ -6,6 +6,7 @@ use native.Mathlib.Omega.{arith}
 use lib.ListN.{getD, replicate}
 use Rattle.mealy.specs.Setting.{Setting, Closed, flagged}
 use Rattle.mealy.specs.Product.{back, forward}
+use Rattle.mealy.proofs.LeastWindows.{fewest-letters}
 use Rattle.mealy.proofs.LoopedPairs.{turned-runs, excludes}
 use Rattle.coder.specs.Table.{machineOfCoder, Sound}
 use Rattle.coder.specs.declared.inner.tables.Coder.{Coder}
@@ -15,11 +16,12 @@ use Rattle.product.specs.declared.inner.Edge.{Edge}
 use Rattle.coder.proofs.Tables.{output-high}
 use Rattle.coder.proofs.Fill.{getD-zeros}
 use Rattle.least.specs.Need.{Sources, ConflictsDone, Needs, Chosen}
-use Rattle.least.specs.declared.Window.{Window}
+use Rattle.values.specs.Pair.{pairOf}
+use Rattle.values.specs.declared.Window.{Window}
 use Rattle.least.proofs.Meaning.{need-finite, least-window, sides-small}
-use Rattle.loops.specs.Pair.{pairOf, FindFrom, FoundPair}
-use Rattle.loops.specs.declared.LoopedPair.{LoopedPair}
-use Rattle.search.specs.Search.{Says}
+use Rattle.loops.specs.Pair.{FindFrom, FoundPair}
+use Rattle.values.specs.declared.LoopedPair.{LoopedPair}
+use Rattle.search.specs.Search.{order, Says}
 use Rattle.search.specs.declared.Verdict.the-variants.{Least, NoDecoder}
 
 -- ---- on a checked coder
@@ -43,10 +45,10 @@ module _ (c : Coder) (flags : List ℕ) (sound : Sound c) (closed : Closed (flag
         need-finite c flags sound backs forwards (found-back .depths) (found-forward .depths) worst need (done .none none)
         (done .sources (no-sources c backs forwards)) needs
 
-    pub window-says : (w : Window) (letters : List ℕ) → Chosen need w → Says S (Least w) letters letters
+    pub window-says : (w : Window) (letters : List ℕ) → Chosen order need w → Says order S (Least w) letters letters
     window-says w letters h =
-        let l = least-window c flags sound backs forwards (found-back .depths) (found-forward .depths) worst need (done .none none) (done .sources (no-sources c backs forwards)) needs closed w h in
-        let s = sides-small c flags sound backs forwards (found-back .depths) (found-forward .depths) closed (w .before) (w .after) l in
+        let l = least-window c flags sound backs forwards (found-back .depths) (found-forward .depths) worst need (done .none none) (done .sources (no-sources c backs forwards)) needs fewest-letters closed w h in
+        let s = sides-small c flags sound backs forwards (found-back .depths) (found-forward .depths) fewest-letters closed (w .before) (w .after) l in
         record { least = l; before-small = s .0; after-small = s .1; stays = refl }
 
   module _ (some : 0 < e .x) where
@@ -74,7 +76,7 @@ module _ (c : Coder) (flags : List ℕ) (sound : Sound c) (closed : Closed (flag
           };
         }
 
-  pub pair-says : (p : LoopedPair) (letters after : List ℕ) → FoundPair c flags p letters after → Says S (NoDecoder p) letters after
+  pub pair-says : (p : LoopedPair) (letters after : List ℕ) → FoundPair c flags p letters after → Says order S (NoDecoder p) letters after
   pair-says p letters after f = record {
     none = excludes S (pairOf p after) (f .valid) closed;
     valid = f .valid;

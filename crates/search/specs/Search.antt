@@ -7,14 +7,14 @@ use lib.ListN.{length, drop}
 use lib.Dec.{leb}
 use Rattle.mealy.specs.Setting.{Setting}
 use Rattle.mealy.specs.Window.{Works}
-use Rattle.mealy.specs.Order.{FewestLetters, Least as LeastOf}
+use Rattle.mealy.specs.Order.{Relation, FewestLetters, Least as LeastOf}
 use Rattle.mealy.specs.Product.{pairs}
 use Rattle.mealy.specs.LoopedPair.{letters, Valid, Short, TurnedRuns}
 use Rattle.coder.specs.Refusal.{refuse, first, upon}
 use Rattle.coder.specs.File.{fileRefusal, settingOf}
-use Rattle.least.specs.declared.Window.{Window}
-use Rattle.loops.specs.Pair.{pairOf}
-use Rattle.loops.specs.declared.LoopedPair.{LoopedPair}
+use Rattle.values.specs.Pair.{pairOf}
+use Rattle.values.specs.declared.Window.{Window}
+use Rattle.values.specs.declared.LoopedPair.{LoopedPair}
 use Rattle.search.specs.declared.Verdict.{Verdict}
 use Rattle.search.specs.declared.Verdict.the-variants.{Least, NoDecoder}
 use Rattle.search.specs.declared.SearchResult.{SearchResult}
@@ -28,10 +28,14 @@ searchRefusal f fits = first (fileRefusal f) (refuse (not fits) 11 0)
 abbrev pub wanted : ℕ
 wanted = 1026
 
--- Demand 3, third sentence ("Coders and runs" has the bound on the sides): the window is least among all that work, whatever their
--- sides. The buffer stays.
-pub record WindowReport (S : Setting) (w : Window) (before after : List ℕ) : Type 0 where
-  pub least : LeastOf FewestLetters S (w .before) (w .after)
+-- The order in which the reported window is the least.
+abbrev pub order : Relation
+order = FewestLetters
+
+-- Demand 3, third sentence ("Coders and runs" has the bound on the sides): the window is in R the least among all that work, whatever
+-- their sides. The buffer stays.
+pub record WindowReport (R : Relation) (S : Setting) (w : Window) (before after : List ℕ) : Type 0 where
+  pub least : LeastOf R S (w .before) (w .after)
   pub before-small : w .before ≤ pairs (S .M .states)
   pub after-small : w .after ≤ pairs (S .M .states)
   pub stays : after ≡ before
@@ -48,14 +52,14 @@ pub record PairReport (S : Setting) (p : LoopedPair) (before after : List ℕ) :
   pub rest : drop (2 * letters (pairOf p after)) after ≡ drop (2 * letters (pairOf p after)) before
 
 -- What each verdict says.
-abbrev pub Says : Setting → Verdict → List ℕ → List ℕ → Type 0
-Says S (Least w) before after = WindowReport S w before after
-Says S (NoDecoder p) before after = PairReport S p before after
+abbrev pub Says : Relation → Setting → Verdict → List ℕ → List ℕ → Type 0
+Says R S (Least w) before after = WindowReport R S w before after
+Says R S (NoDecoder p) before after = PairReport S p before after
 
-pub record FoundVerdict (S : Setting) (r : SearchResult) (before after : List ℕ) : Type 0 where
+pub record FoundVerdict (R : Relation) (S : Setting) (r : SearchResult) (before after : List ℕ) : Type 0 where
   pub verdict : Verdict
   pub is : r ≡ Found verdict
-  pub says : Says S verdict before after
+  pub says : Says R S verdict before after
 
 pub record RefusedSearch (k : ℕ) (r : SearchResult) (before after : List ℕ) : Type 0 where
   pub is : r ≡ Refused k
@@ -64,4 +68,5 @@ pub record RefusedSearch (k : ℕ) (r : SearchResult) (before after : List ℕ) 
 -- The first refusal that applies and the buffer as it was, or a verdict that is right for the file's machine.
 abbrev pub SearchPromise : List ℕ → List ℕ → SearchResult → List ℕ → Type 0
 SearchPromise f before r after =
-    upon (searchRefusal f (leb wanted (length before))) (λ k. RefusedSearch k r before after) (FoundVerdict (settingOf f) r before after)
+    upon (searchRefusal f (leb wanted (length before))) (λ k. RefusedSearch k r before after)
+    (FoundVerdict order (settingOf f) r before after)

@@ -4,7 +4,7 @@ ghost use Prim.Native.Nat.{_≤_};
 ghost use lib.ListN.{length};
 ghost use Rattle.mealy.specs.Setting.{Closed, flagged};
 ghost use Rattle.coder.specs.Table.{machineOfCoder, Sound};
-ghost use Rattle.search.specs.Search.{searchRefusal, wanted, Says};
+ghost use Rattle.search.specs.Search.{searchRefusal, wanted, order, Says};
 use crate::Verdict;
 use coder::inner::tables::Coder;
 
@@ -25,7 +25,7 @@ pub fn refusal(file: &[u8], fits: bool) -> usize
 // The verdict on a coder whose runs start in the states with flag 1.
 pub fn verdict(c: Coder, flags: &[u8; 16], letters: &mut [u8]) -> Verdict
     requires { ⌜ Sound c × Closed (flagged (machineOfCoder c) (now flags)) × (wanted ≤ length (now letters)) ⌝ }
-    ensures { λ r. ⌜ Says (flagged (machineOfCoder c) (now (flags .entry))) r (now (letters .entry)) (now (letters .exit)) ⌝ }
+    ensures { λ r. ⌜ Says order (flagged (machineOfCoder c) (now (flags .entry))) r (now (letters .entry)) (now (letters .exit)) ⌝ }
 {
     let states = c.states;
     let inputs = c.inputs;

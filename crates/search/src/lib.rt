@@ -5,8 +5,8 @@ pub mod inner; // inner.rt: what the crates above call on checked bytes; no publ
 
 // The least window that works, or a looped pair that excludes every window; the pair's letters lie in the lent buffer.
 pub enum Verdict {
-    Least(least::Window),
-    NoDecoder(loops::LoopedPair),
+    Least(values::Window),
+    NoDecoder(values::LoopedPair),
 }
 
 // The refusal's number, or the verdict.

@@ -54,7 +54,7 @@ fn differ(bytes: &[u8], x: usize, y: usize) -> bool {
 }
 
 // The number of bytes of a pair, 0 where a length is above 256.
-fn bytes_of(p: loops::LoopedPair) -> usize {
+fn bytes_of(p: values::LoopedPair) -> usize {
     let b = p.back_loop;
     let i = p.lead_in;
     let o = p.lead_out;
@@ -72,7 +72,7 @@ fn bytes_of(p: loops::LoopedPair) -> usize {
 }
 
 // Whether the checker says yes to a pair whose letters stand at the front of the buffer.
-fn checked(file: &[u8], p: loops::LoopedPair, bytes: &[u8]) -> bool {
+fn checked(file: &[u8], p: values::LoopedPair, bytes: &[u8]) -> bool {
     let n = bytes_of(p);
     if n <= bytes.len() {
         let letters = &bytes[..n];
@@ -96,7 +96,7 @@ fn checked(file: &[u8], p: loops::LoopedPair, bytes: &[u8]) -> bool {
 
 // What is fixed of the pair of a coder with this number of states and of pairs of states: starts, loops, both bounds, different
 // letters at the mark, what the checker says of it, and the bytes past 513 letters.
-fn pair(file: &[u8], p: loops::LoopedPair, states: usize, square: usize, bytes: &[u8]) {
+fn pair(file: &[u8], p: values::LoopedPair, states: usize, square: usize, bytes: &[u8]) {
     say(b": no decoder, starts");
     yes(p.s < states);
     yes(p.t < states);
@@ -116,7 +116,7 @@ fn pair(file: &[u8], p: loops::LoopedPair, states: usize, square: usize, bytes: 
 }
 
 // A window, and some bytes of the buffer, which stay.
-fn window(w: least::Window, bytes: &[u8]) {
+fn window(w: values::Window, bytes: &[u8]) {
     say(b": window");
     number(w.before);
     number(w.after);
