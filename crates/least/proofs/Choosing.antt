@@ -7,6 +7,8 @@ use native.Mathlib.Decide.{ℕ-discrete, decLe}
 use lib.ListN.{length, getD, set, length-set}
 use lib.Seq.{getD-set-same, getD-set-other}
 use Rattle.mealy.specs.Order.{FewestLetters}
+use Rattle.coder.specs.Limits.{maxSide}
+use Rattle.product.specs.Depth.{endless}
 use Rattle.least.specs.Need.{MostPast}
 
 -- ---- from the end to place f: `most` is the most from f on, and the places from f on are filled
@@ -14,9 +16,9 @@ use Rattle.least.specs.Need.{MostPast}
 pub record NeedsFrom (worst : List ℕ) (f : ℕ) (need : List ℕ) (most : ℕ) : Type 0 where
   pub size : length need ≡ 256
   pub past : MostPast worst f most
-  pub filled : (a : ℕ) → f ≤ a → a < 255 → MostPast worst a (getD need a 0)
+  pub filled : (a : ℕ) → f ≤ a → a < endless → MostPast worst a (getD need a 0)
 
-pub needs-start : (worst need : List ℕ) → length need ≡ 256 → NeedsFrom worst 255 need 0
+pub needs-start : (worst need : List ℕ) → length need ≡ 256 → NeedsFrom worst endless need 0
 needs-start worst need e = record {
   size = e;
   past = record { upper = λ f l m. absurd (omega arith); source = λ l. absurd (omega arith) };
@@ -49,27 +51,27 @@ module _ {worst need : List ℕ} {f most : ℕ} (n : NeedsFrom worst f need most
     ];
   }
 
--- ---- the first of the candidates of lookahead a to 136
+-- ---- the first of the candidates of lookahead a to maxSide
 
 pub record FirstFrom (need : List ℕ) (a before after : ℕ) : Type 0 where
   pub low : a ≤ after
-  pub lookahead : after ≤ 136
-  pub finite : before < 255
+  pub lookahead : after ≤ maxSide
+  pub finite : before < endless
   pub is : before ≡ getD need after 0
-  pub first : (c : ℕ) → a ≤ c → c ≤ 136 → getD need c 0 < 255 → FewestLetters before after (getD need c 0) c
+  pub first : (c : ℕ) → a ≤ c → c ≤ maxSide → getD need c 0 < endless → FewestLetters before after (getD need c 0) c
 
-pub first-start : (need : List ℕ) (x : ℕ) → x ≡ getD need 136 0 → getD need 136 0 < 255 → FirstFrom need 136 x 136
+pub first-start : (need : List ℕ) (x : ℕ) → x ≡ getD need maxSide 0 → getD need maxSide 0 < endless → FirstFrom need maxSide x maxSide
 first-start need x e l = record {
   low = omega arith;
   lookahead = omega arith;
   finite = omega arith;
   is = e;
-  first = λ c m n k. let z : c ≡ 136 = omega arith in rw (z, e) (record { fewer = omega arith; tie = λ w. omega arith });
+  first = λ c m n k. let z : c ≡ maxSide = omega arith in rw (z, e) (record { fewer = omega arith; tie = λ w. omega arith });
 }
 
 module _ {need : List ℕ} {a before after b : ℕ} (f : FirstFrom need a before after) (some : 0 < a) (e : b ≡ getD need (a - 1) 0) where
   -- no candidate, or one with more letters
-  pub first-stays : (b < 255 → before + after < b + (a - 1)) → FirstFrom need (a - 1) before after
+  pub first-stays : (b < endless → before + after < b + (a - 1)) → FirstFrom need (a - 1) before after
   first-stays h = record {
     low = let l = f .low in omega arith;
     lookahead = f .lookahead;
@@ -82,7 +84,7 @@ module _ {need : List ℕ} {a before after b : ℕ} (f : FirstFrom need a before
   }
 
   -- one with no more letters has less lookahead
-  pub first-changes : b < 255 → b + (a - 1) ≤ before + after → FirstFrom need (a - 1) b (a - 1)
+  pub first-changes : b < endless → b + (a - 1) ≤ before + after → FirstFrom need (a - 1) b (a - 1)
   first-changes l m = record {
     low = omega arith;
     lookahead = let h = f .lookahead in let g = f .low in omega arith;

@@ -16,12 +16,13 @@ use Rattle.chains.specs.Chain.{isEntry, hasKey, lastBelow}
 use Rattle.coder.proofs.Refusals.{true-false}
 use Rattle.chains.proofs.Chains.{last-bound, last-passes, last-above}
 use Rattle.chains.proofs.Entries.{is-entry, entry-place, has-key, key-entry}
-use Rattle.product.specs.Depth.{at}
+use Rattle.mealy.specs.Word.{Has}
+use Rattle.product.specs.Depth.{at, endless}
+use Rattle.product.specs.Conflict.{Conflicting, backOf, forwardOf}
 use Rattle.product.proofs.Entries.{entry-below, far-below}
 use Rattle.coder.proofs.Tables.{output-high}
 use Rattle.mealy.specs.Product.{forward}
-use mathlib.Core.Logic.{_≢_}
-use Rattle.least.specs.Need.{Conflicting, backOf, forwardOf, Counted, Source, Sources, raised, Grows}
+use Rattle.least.specs.Need.{Counted, Source, Sources, raised, Grows}
 use Rattle.least.specs.Need.{CountAsked, CountedOne, RowOf, RowDone, ConflictsAsked, ConflictsDone}
 
 -- ---- the table with one number taken in
@@ -51,9 +52,9 @@ module _ (worst : List ℕ) (f x : ℕ) where
     raised-least = raised-cases (λ w. x ≤ getD w f 0) (λ l. rw (getD-set-same worst f x 0 inside) (omega arith)) (λ l. l)
 
     pub raised-sources :
-        {c : Coder} {backs forwards : List (List ℕ)} → Source c backs forwards f x → Sources c backs forwards worst →
-        Sources c backs forwards (raised worst f x)
-    raised-sources {c} {backs} {forwards} s h = raised-cases (Sources c backs forwards)
+        {c : Coder} {conflicts : List ℕ} {backs forwards : List (List ℕ)} → Source c conflicts backs forwards f x → Sources c conflicts backs forwards worst →
+        Sources c conflicts backs forwards (raised worst f x)
+    raised-sources {c} {conflicts} {backs} {forwards} s h = raised-cases (Sources c conflicts backs forwards)
         (λ l g m. elim (ℕ-discrete g f) [
           | yes e ↦ (let z : getD (set worst f x) g 0 ≡ x = rw e (getD-set-same worst f x 0 inside) in rw (z, e) s)
           | no e ↦ (let z = getD-set-other worst f g x 0 e in rw z (h g (rw z at m)))
@@ -71,11 +72,11 @@ counted-grows {c} {backs} {forwards} {worst} {later} {p} {q} g k = record {
 -- ---- one edge
 
 module _ (next : List ℕ) (backs forwards : List (List ℕ)) (p q : ℕ) (before : List ℕ) {u v f : ℕ}
-    (eu : u ≡ getD next p 0) (ev : v ≡ getD next q 0) (ef : f ≡ at forwards u v) (high : f < 256) where
+    (eu : u ≡ getD next p 0) (ev : v ≡ getD next q 0) (ef : f ≡ at forwards u v) where
   forward-is : f ≡ forwardOf next forwards p q
   forward-is = ef ∙ rw (eu, ev)
 
-  pub count-both : (eqb (backOf backs p q) 255 && eqb f 255) ≡ true → CountedOne next backs forwards p q before true before
+  pub count-both : (eqb (backOf backs p q) endless && eqb f endless) ≡ true → CountedOne next backs forwards p q before true before
   count-both e =
       let b = both-true _ _ e in
       record {
@@ -83,13 +84,13 @@ module _ (next : List ℕ) (backs forwards : List (List ℕ)) (p q : ℕ) (befor
         finite = λ z. absurd (true-false refl z);
         raises = λ z. absurd (true-false refl z);
         stays = λ z. refl;
-        high = omega (arith, forward-is);
+        high = omega (arith, forward-is, eqb-true f endless (b .1));
       }
 
   pub count-one :
-      (eqb (backOf backs p q) 255 && eqb f 255) ≡ false → {after : List ℕ} → after ≡ raised before f (backOf backs p q) →
+      (eqb (backOf backs p q) endless && eqb f endless) ≡ false → f < 256 → {after : List ℕ} → after ≡ raised before f (backOf backs p q) →
       CountedOne next backs forwards p q before false after
-  count-one e r =
+  count-one e high r =
       record {
         both = λ z. absurd (true-false z refl);
         finite = λ z w. true-false (rw (eq-eqb _ _ (w .back-endless), eq-eqb _ _ (forward-is ∙ w .forward-endless))) e;
@@ -100,7 +101,7 @@ module _ (next : List ℕ) (backs forwards : List (List ℕ)) (p q : ℕ) (befor
 
 -- ---- a row: the walk along the chain has come to the entry numbered y
 
-module _ (c : Coder) (backs forwards : List (List ℕ)) (previous next : List ℕ) (p from : ℕ) (r : RowOf c previous next p from) where
+module _ (c : Coder) (conflicts : List ℕ) (backs forwards : List (List ℕ)) (previous next : List ℕ) (p from : ℕ) (r : RowOf c previous next p from) where
   abbrev Key : ℕ → Bool
   Key = hasKey (c .output) (c .states) (c .inputs) (getD (c .output) p 0)
 
@@ -109,10 +110,10 @@ module _ (c : Coder) (backs forwards : List (List ℕ)) (previous next : List �
     pub entry : (q : ℕ) → y ≡ suc q → Key q ≡ true
     pub size : length worst ≡ 256
     pub grows : Grows before worst
-    pub sources : Sources c backs forwards before → Sources c backs forwards worst
-    pub counted : (q : ℕ) → Conflicting c p q → y < suc q → Counted c backs forwards worst p q
+    pub sources : Sources c conflicts backs forwards before → Sources c conflicts backs forwards worst
+    pub counted : (q : ℕ) → Conflicting c conflicts p q → y < suc q → Counted c backs forwards worst p q
 
-  conflicting-key : (q : ℕ) → Conflicting c p q → Key q ≡ true
+  conflicting-key : (q : ℕ) → Conflicting c conflicts p q → Key q ≡ true
   conflicting-key q k = has-key _ _ _ _ q (k .entry₂) (sym (k .output))
 
   pub row-high : from ≤ 256
@@ -148,8 +149,8 @@ module _ (c : Coder) (backs forwards : List (List ℕ)) (previous next : List �
     -- the entry at y - 1 is seen to: it does not conflict, or it is counted in the table `later`
     row-next :
         {y′ : ℕ} {later : List ℕ} → y′ ≡ getD previous (y - 1) 0 → length later ≡ 256 → Grows worst later →
-        (Sources c backs forwards worst → Sources c backs forwards later) →
-        (Conflicting c p (y - 1) → Counted c backs forwards later p (y - 1)) → RowAt before y′ later
+        (Sources c conflicts backs forwards worst → Sources c conflicts backs forwards later) →
+        (Conflicting c conflicts p (y - 1) → Counted c backs forwards later p (y - 1)) → RowAt before y′ later
     row-next {y′} e s g h k = record {
       high = let l = a .high in omega (arith, row-less e);
       entry = λ q f. last-passes Key (y - 1) q (sym (next-is-last e) ∙ f);
@@ -175,13 +176,13 @@ module _ (c : Coder) (backs forwards : List (List ℕ)) (previous next : List �
           next₂ = rw (r .next-is) (omega (arith, far-below c (r .sound) forward (y - 1) (entry-here .0)));
         }
 
-    pub row-apart : {y′ : ℕ} → y′ ≡ getD previous (y - 1) 0 → (p % 16 ≢ (y - 1) % 16 → ⊥) → RowAt before y′ worst
+    pub row-apart : {y′ : ℕ} → y′ ≡ getD previous (y - 1) 0 → (Has (getD conflicts (p % 16) 0) ((y - 1) % 16) → ⊥) → RowAt before y′ worst
     row-apart e f = row-next e (a .size) (λ f. omega arith) (λ z. z) (λ k. absurd (f (k .conflict)))
 
-    conflicting-here : p % 16 ≢ (y - 1) % 16 → Conflicting c p (y - 1)
+    conflicting-here : Has (getD conflicts (p % 16) 0) ((y - 1) % 16) → Conflicting c conflicts p (y - 1)
     conflicting-here n = record { entry₁ = r .entry; entry₂ = entry-here .0; output = sym (entry-here .1); conflict = n }
 
-    module _ (differ : p % 16 ≢ (y - 1) % 16) {b : Bool} {later : List ℕ}
+    module _ (conflict : Has (getD conflicts (p % 16) 0) ((y - 1) % 16)) {b : Bool} {later : List ℕ}
         (one : CountedOne next backs forwards p (y - 1) worst b later) where
       pub row-counted : {y′ : ℕ} → b ≡ false → y′ ≡ getD previous (y - 1) 0 → RowAt before y′ later
       row-counted z e =
@@ -191,10 +192,10 @@ module _ (c : Coder) (backs forwards : List (List ℕ)) (previous next : List �
           let n : forwardOf (c .next) forwards p (y - 1) ≡ f = ap (λ t. forwardOf t forwards p (y - 1)) (sym (r .next-is)) in
           rw (one .raises z)
           (row-next e (raised-size worst f x ∙ a .size) (raised-grows worst f x l)
-          (raised-sources worst f x l (record { p = p; q = y - 1; conflicting = conflicting-here differ; forward-is = n; back-is = refl }))
+          (raised-sources worst f x l (record { p = p; q = y - 1; conflicting = conflicting-here conflict; forward-is = n; back-is = refl }))
           (λ k. record { least = rw n (raised-least worst f x l); finite = λ w. one .finite z (rw (r .next-is) w) }))
 
-      pub row-found : b ≡ true → RowDone c backs forwards p before y later
+      pub row-found : b ≡ true → RowDone c conflicts backs forwards p before y later
       row-found z =
           rw (one .stays z)
           record {
@@ -203,26 +204,26 @@ module _ (c : Coder) (backs forwards : List (List ℕ)) (previous next : List �
             grows = a .grows;
             sources = a .sources;
             none = λ e. absurd (omega arith);
-            some = λ q e. let f : q ≡ y - 1 = omega arith in rw f (conflicting-here differ, rw (r .next-is) at (one .both z));
+            some = λ e. record { edge = conflicting-here conflict; ends = rw (r .next-is) at (one .both z) };
           }
 
-  pub row-end : {before worst : List ℕ} → RowAt before 0 worst → RowDone c backs forwards p before 0 worst
+  pub row-end : {before worst : List ℕ} → RowAt before 0 worst → RowDone c conflicts backs forwards p before 0 worst
   row-end a = record {
     high = omega arith;
     size = a .size;
     grows = a .grows;
     sources = a .sources;
     none = λ e q k. a .counted q k (omega arith);
-    some = λ q e. absurd (omega arith);
+    some = λ l. absurd (omega arith);
   }
 
 -- ---- all rows: the entries before place a have been counted
 
-module _ (c : Coder) (backs forwards : List (List ℕ)) (sound : Sound c) where
+module _ (c : Coder) (conflicts : List ℕ) (backs forwards : List (List ℕ)) (sound : Sound c) where
   pub record RowsTo (before : List ℕ) (a : ℕ) (worst : List ℕ) : Type 0 where
     pub size : length worst ≡ 256
-    pub sources : Sources c backs forwards before → Sources c backs forwards worst
-    pub counted : (p q : ℕ) → p < a → Conflicting c p q → Counted c backs forwards worst p q
+    pub sources : Sources c conflicts backs forwards before → Sources c conflicts backs forwards worst
+    pub counted : (p q : ℕ) → p < a → Conflicting c conflicts p q → Counted c backs forwards worst p q
 
   pub rows-start : {before : List ℕ} → length before ≡ 256 → RowsTo before 0 before
   rows-start e = record { size = e; sources = λ z. z; counted = λ p q l. absurd (omega arith) }
@@ -239,7 +240,7 @@ module _ (c : Coder) (backs forwards : List (List ℕ)) (sound : Sound c) where
       ];
     }
 
-    module _ {later : List ℕ} {y : ℕ} (r : RowDone c backs forwards a worst y later) where
+    module _ {later : List ℕ} {y : ℕ} (r : RowDone c conflicts backs forwards a worst y later) where
       pub rows-more : y ≡ 0 → RowsTo before (a + 1) later
       rows-more z = record {
         size = r .size;
@@ -250,25 +251,25 @@ module _ (c : Coder) (backs forwards : List (List ℕ)) (sound : Sound c) where
         ];
       }
 
-      pub rows-found : {x : ℕ} → x ≡ suc a → 0 < y → ConflictsDone c backs forwards before (record { x = x; y = y }) later
-      rows-found e l = record {
+      pub rows-found : {x : ℕ} → x ≡ suc a → 0 < y → ConflictsDone c conflicts backs forwards before (record { x = x; y = y }) later
+      rows-found {x} e l = record {
         size = r .size;
         sources = λ s. r .sources (h .sources s);
         none = λ z. absurd (omega arith);
         found = λ m. l;
-        some = λ p q f g. let w : p ≡ a = omega arith in rw w (r .some q g);
+        some = λ m. let w : x - 1 ≡ a = omega arith in rw w (r .some l);
       }
 
   -- no place past the last state holds an entry
   pub rows-end :
       {before worst : List ℕ} {a : ℕ} → RowsTo before a worst → a ≡ 16 * c .states →
-      ConflictsDone c backs forwards before (record { x = 0; y = 0 }) worst
+      ConflictsDone c conflicts backs forwards before (record { x = 0; y = 0 }) worst
   rows-end {a} h e = record {
     size = h .size;
     sources = h .sources;
     none = λ z p q k. h .counted p q (omega (arith, entry-place _ _ p (k .entry₁))) k;
     found = λ l. absurd (omega arith);
-    some = λ p q f g. absurd (omega arith);
+    some = λ l. absurd (omega arith);
   }
 
   -- the row of the entry at place a

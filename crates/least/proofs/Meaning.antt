@@ -1,12 +1,13 @@
 -- From the depths and the counted edges to the least window.
 use mathlib.Core.Path.{_≡_, sym, _∙_}
+use mathlib.Core.Bool.{true}
 use mathlib.Core.Logic.{_↔_}
 use mathlib.Core.List.{List}
 use Prim.Native.Nat.{ℕ, suc, _/_, _%_, _≤_, _<_}
 use native.Mathlib.Omega.{arith}
 use native.Mathlib.Decide.{decLt, decLe}
 use lib.ListN.{getD}
-use Rattle.mealy.specs.Setting.{Setting, Closed, flagged}
+use Rattle.mealy.specs.Setting.{Setting, Closed, worded}
 use Rattle.mealy.specs.Window.{Works}
 use Rattle.mealy.specs.Order.{Relation, Order, Least}
 use Rattle.mealy.specs.Product.{back, forward, Level, pairs}
@@ -17,45 +18,46 @@ use Rattle.mealy.proofs.Settling.{settled-by}
 use Rattle.coder.specs.Table.{machineOfCoder, Sound}
 use Rattle.coder.specs.declared.inner.tables.Coder.{Coder}
 use Rattle.chains.proofs.Entries.{entry-place}
-use Rattle.product.specs.Depth.{at, Depth, Depths}
+use Rattle.coder.specs.Limits.{maxSide}
+use Rattle.chains.specs.Chain.{isEntry}
+use Rattle.product.specs.Depth.{endless, Depth, Depths}
+use Rattle.product.specs.Rounds.{StartIn}
+use Rattle.product.specs.Conflict.{Conflicting, backOf, forwardOf}
 use Rattle.product.proofs.Entries.{source-at, entry-below, far-below, entries-edge, edge-entries}
 use Rattle.product.proofs.Depths.{pairs-high, start-decided, start-bounded}
-use Rattle.least.specs.Need.{Conflicting, backOf, forwardOf, Counted, Sources, Needs, Chosen}
+use Rattle.least.specs.Need.{Counted, Sources, Needs, Chosen}
 use Rattle.values.specs.declared.Window.{Window}
 
 -- a pair that is in level k has a depth above k, or is endless
-pub depth-above : (P : ℕ → Type 0) → ((k : ℕ) → P (suc k) → P k) → (x k : ℕ) → Depth P x → P k → x < 255 → k < x
+pub depth-above : (P : ℕ → Type 0) → ((k : ℕ) → P (suc k) → P k) → (x k : ℕ) → Depth P x → P k → x < endless → k < x
 depth-above P fall x k d p l = elim (decLt k x) [ yes m ↦ m | no m ↦ absurd (d .falls l (down P fall {m = x} {k = k} (omega arith) p)) ]
 
-module _ (c : Coder) (flags : List ℕ) (sound : Sound c) (backs forwards : List (List ℕ))
-    (back-depths : Depths (flagged (machineOfCoder c) flags) back backs)
-    (forward-depths : Depths (flagged (machineOfCoder c) flags) forward forwards) where
+module _ (c : Coder) (starts : ℕ) (conflicts : List ℕ) (sound : Sound c) (backs forwards : List (List ℕ))
+    (back-depths : Depths (machineOfCoder c) (StartIn (c .states) starts) back backs)
+    (forward-depths : Depths (machineOfCoder c) (StartIn (c .states) starts) forward forwards) where
   abbrev S : Setting
-  S = flagged (machineOfCoder c) flags
+  S = worded (machineOfCoder c) starts conflicts
 
   state-high : (s : ℕ) → s < c .states → s < 16
   state-high s l = omega (arith, sound .states-high)
 
-  next-state : (p : ℕ) → {q : ℕ} → Conflicting c p q → getD (c .next) p 0 < 16
-  next-state p k = state-high _ (far-below c sound forward p (k .entry₁))
+  next-state : (p : ℕ) → isEntry (c .states) (c .inputs) p ≡ true → getD (c .next) p 0 < 16
+  next-state p k = state-high _ (far-below c sound forward p k)
 
-  swapped : {p q : ℕ} → Conflicting c p q → Conflicting c q p
-  swapped k = record { entry₁ = k .entry₂; entry₂ = k .entry₁; output = sym (k .output); conflict = λ e. k .conflict (sym e) }
-
-  back-depth : (p q : ℕ) → Conflicting c p q → Depth (λ k. Level S back k (p / 16) (q / 16)) (backOf backs p q)
+  back-depth : (p q : ℕ) → Conflicting c conflicts p q → Depth (λ k. Level S back k (p / 16) (q / 16)) (backOf backs p q)
   back-depth p q k =
       let s = entry-place _ _ p (k .entry₁) .state in
       let t = entry-place _ _ q (k .entry₂) .state in
       back-depths .depth (p / 16) (q / 16) (state-high _ s) (state-high _ t)
 
   forward-depth :
-      (p q : ℕ) → Conflicting c p q →
+      (p q : ℕ) → Conflicting c conflicts p q →
       Depth (λ k. Level S forward k (getD (c .next) p 0) (getD (c .next) q 0)) (forwardOf (c .next) forwards p q)
-  forward-depth p q k = forward-depths .depth _ _ (next-state p k) (next-state q (swapped k))
+  forward-depth p q k = forward-depths .depth _ _ (next-state p (k .entry₁)) (next-state q (k .entry₂))
 
   -- a conflicting edge of the product machine, by its entries
   conflict-edge :
-      (b a p q : ℕ) → Conflicting c p q → Level S back b (p / 16) (q / 16) →
+      (b a p q : ℕ) → Conflicting c conflicts p q → Level S back b (p / 16) (q / 16) →
       Level S forward a (getD (c .next) p 0) (getD (c .next) q 0) → Ambiguous S b a
   conflict-edge b a p q k h g = record {
     s = p / 16;
@@ -77,7 +79,7 @@ module _ (c : Coder) (flags : List ℕ) (sound : Sound c) (backs forwards : List
   record EdgeEntries (b a : ℕ) : Type 0 where
     p : ℕ
     q : ℕ
-    conflicting : Conflicting c p q
+    conflicting : Conflicting c conflicts p q
     level-back : Level S back b (p / 16) (q / 16)
     level-forward : Level S forward a (getD (c .next) p 0) (getD (c .next) q 0)
 
@@ -94,39 +96,39 @@ module _ (c : Coder) (flags : List ℕ) (sound : Sound c) (backs forwards : List
           entry₁ = x .entry₁;
           entry₂ = x .entry₂;
           output = x .output;
-          conflict = λ f. e .conflict (sym (x .letter₁) ∙ f ∙ x .letter₂);
+          conflict = rw (x .letter₁, x .letter₂) (e .conflict);
         };
         level-back = rw (sym ps ∙ x .source₁, sym qs ∙ x .source₂) (e .from);
         level-forward = rw (x .next₁, x .next₂) (e .to);
       }
 
-  module _ (worst need : List ℕ) (counted : (p q : ℕ) → Conflicting c p q → Counted c backs forwards worst p q)
-      (from : Sources c backs forwards worst) (needs : Needs worst need) where
+  module _ (worst need : List ℕ) (counted : (p q : ℕ) → Conflicting c conflicts p q → Counted c backs forwards worst p q)
+      (from : Sources c conflicts backs forwards worst) (needs : Needs worst need) where
     -- what is needed was counted at an edge to a pair that stands at level a forward
     record NeedSource (a : ℕ) : Type 0 where
       p : ℕ
       q : ℕ
-      conflicting : Conflicting c p q
+      conflicting : Conflicting c conflicts p q
       past : a < forwardOf (c .next) forwards p q
       back-is : backOf backs p q ≡ getD need a 0
 
-    need-source : (a : ℕ) → a < 255 → 0 < getD need a 0 → NeedSource a
+    need-source : (a : ℕ) → a < endless → 0 < getD need a 0 → NeedSource a
     need-source a l m =
         let s = needs a l .source m in
         let e = from (s .0) (omega (arith, s .3)) in
         record { p = e .p; q = e .q; conflicting = e .conflicting; past = omega (arith, e .forward-is, s .1); back-is = e .back-is ∙ s .3 }
 
-    -- the letters that lookahead 136 needs are finite: where the forward levels have settled, only endless pairs stand
-    pub need-finite : getD need 136 0 < 255
-    need-finite = elim (decLt (getD need 136 0) 255) [
+    -- the letters that lookahead maxSide needs are finite: where the forward levels have settled, only endless pairs stand
+    pub need-finite : getD need maxSide 0 < endless
+    need-finite = elim (decLt (getD need maxSide 0) endless) [
       | yes l ↦ l
-      | no l ↦ (let n = need-source 136 (omega arith) (omega arith) in
+      | no l ↦ (let n = need-source maxSide (omega arith) (omega arith) in
           let k = n .conflicting in
           let d = forward-depth (n .p) (n .q) k in
-          let h = forward-depths .finite _ _ (next-state (n .p) k) (next-state (n .q) (swapped k)) in
+          let h = forward-depths .finite _ _ (next-state (n .p) (k .entry₁)) (next-state (n .q) (k .entry₂)) in
           absurd (counted (n .p) (n .q) k .finite (record {
             back-endless = omega (arith, n .back-is, back-depth (n .p) (n .q) k .high);
-            forward-endless = elim (decLt (forwardOf (c .next) forwards (n .p) (n .q)) 255) [
+            forward-endless = elim (decLt (forwardOf (c .next) forwards (n .p) (n .q)) endless) [
               | yes m ↦ absurd (omega (arith, n .past, h m, pairs-high (c .states) (sound .states-high)))
               | no m ↦ omega (arith, d .high)
             ];
@@ -134,10 +136,10 @@ module _ (c : Coder) (flags : List ℕ) (sound : Sound c) (backs forwards : List
     ]
 
     -- the windows of lookahead a that work are those with at least the letters that it needs
-    pub need-is : Closed S → (b a : ℕ) → a ≤ 136 → Works S b a ↔ ((getD need a 0 < 255) × (getD need a 0 ≤ b))
+    pub need-is : Closed S → (b a : ℕ) → a ≤ maxSide → Works S b a ↔ ((getD need a 0 < endless) × (getD need a 0 ≤ b))
     need-is closed b a l = (to, from′)
       where
-        to : Works S b a → (getD need a 0 < 255) × (getD need a 0 ≤ b)
+        to : Works S b a → (getD need a 0 < endless) × (getD need a 0 ≤ b)
         to f = elim (decLt 0 (getD need a 0)) [
           | no z ↦ omega arith
           | yes m ↦ (let n = need-source a (omega arith) m in
@@ -145,29 +147,29 @@ module _ (c : Coder) (flags : List ℕ) (sound : Sound c) (backs forwards : List
               let d = back-depth (n .p) (n .q) k in
               let stands : Level S back b (n .p / 16) (n .q / 16) → ⊥ = λ h.
               works→unambiguous S b a f (conflict-edge b a (n .p) (n .q) k h (forward-depth (n .p) (n .q) k .stands a (n .past))) in
-              elim (decLt (getD need a 0) 255) [
+              elim (decLt (getD need a 0) endless) [
                 | yes o ↦ (
                   o,
                   elim (decLe (getD need a 0) b) [ yes e ↦ e | no e ↦ absurd (stands (d .stands b (omega (arith, n .back-is)))) ],
                 )
-                | no o ↦ absurd (stands (d .endless (omega (arith, n .back-is, d .high)) b))
+                | no o ↦ absurd (stands (d .always (omega (arith, n .back-is, d .high)) b))
               ])
         ]
 
-        from′ : (getD need a 0 < 255) × (getD need a 0 ≤ b) → Works S b a
+        from′ : (getD need a 0 < endless) × (getD need a 0 ≤ b) → Works S b a
         from′ m = unambiguous→works S closed b a (λ e.
             let x = conflict-entries b a e in
             let k = x .conflicting in
             let f = forwardOf (c .next) forwards (x .p) (x .q) in
             let df = forward-depth (x .p) (x .q) k in
-            let past : a < f = elim (decLt f 255) [
+            let past : a < f = elim (decLt f endless) [
               | yes n ↦ depth-above (λ k. Level S forward k _ _) (λ k. level-fall S forward k _ _) f a df (x .level-forward) n
               | no n ↦ omega arith
             ] in
             let u = needs a (omega arith) .upper f past (omega (arith, df .high)) in
             let w = counted (x .p) (x .q) k .least in
             let y = backOf backs (x .p) (x .q) in
-            let n : y < 255 = omega (arith, u, w, m .0) in
+            let n : y < endless = omega (arith, u, w, m .0) in
             let db = back-depth (x .p) (x .q) k in
             let o = depth-above (λ k. Level S back k _ _) (λ k. level-fall S back k _ _) y b db (x .level-back) n in
             omega (arith, u, w, m .1, o))
@@ -176,14 +178,14 @@ module _ (c : Coder) (flags : List ℕ) (sound : Sound c) (backs forwards : List
     pub least-window :
         {R : Relation} → Order R → Closed S → (w : Window) → Chosen R need w → Least R S (w .before) (w .after)
     least-window order closed w h =
-        let settled = settled-by S (start-decided c back flags sound) (start-bounded c back flags sound) in
+        let settled = settled-by S (start-decided c back starts sound) (start-bounded c back starts sound) in
         rw (h .is)
-        (least-need order S closed 136 (settled forward 136 (pairs-high (c .states) (sound .states-high))) 255
+        (least-need order S closed maxSide (settled forward maxSide (pairs-high (c .states) (sound .states-high))) endless
         (λ a. getD need a 0) (need-is closed) (w .after) (h .lookahead) (h .finite) (λ a l m. rw (h .is) at (h .first a l m)))
 
   pub sides-small :
       {R : Relation} → Order R → Closed S → (b a : ℕ) → Least R S b a → (b ≤ pairs (c .states)) × (a ≤ pairs (c .states))
   sides-small order closed =
-      let settled = settled-by S (start-decided c back flags sound) (start-bounded c back flags sound) in
+      let settled = settled-by S (start-decided c back starts sound) (start-bounded c back starts sound) in
       let n = pairs (c .states) in
       least-sides order S closed n n (settled back n (omega arith)) (settled forward n (omega arith))

@@ -1,37 +1,19 @@
 -- The letters before that each lookahead needs, by the depths of the conflicting edges.
-use Prim.Native.Nat.{ℕ, suc, _/_, _%_, _≤_, _<_}
+use Prim.Native.Nat.{ℕ, _-_, _≤_, _<_}
 use mathlib.Core.Path.{_≡_}
 use mathlib.Core.Bool.{Bool, true, false, cond}
 use mathlib.Core.List.{List}
-use mathlib.Core.Logic.{_≢_}
 use lib.ListN.{length, getD, set}
 use lib.Dec.{ltb}
 use Rattle.mealy.specs.Order.{Relation}
+use Rattle.coder.specs.Limits.{maxSide}
 use Rattle.coder.specs.Table.{Sound}
 use Rattle.coder.specs.declared.inner.tables.Coder.{Coder}
 use Rattle.chains.specs.Chain.{isEntry, hasKey, lastBelow, Chained}
-use Rattle.product.specs.Depth.{at}
+use Rattle.product.specs.Depth.{endless}
+use Rattle.product.specs.Conflict.{Conflicting, backOf, forwardOf, BothEndless, EndlessConflict}
 use Rattle.product.specs.declared.inner.Edge.{Edge}
 use Rattle.values.specs.declared.Window.{Window}
-
--- the entries at places p and q are an edge on conflicting letters
-pub record Conflicting (c : Coder) (p q : ℕ) : Type 0 where
-  pub entry₁ : isEntry (c .states) (c .inputs) p ≡ true
-  pub entry₂ : isEntry (c .states) (c .inputs) q ≡ true
-  pub output : getD (c .output) p 0 ≡ getD (c .output) q 0
-  pub conflict : p % 16 ≢ q % 16
-
--- the depth back of the pair that the edge leaves, and the depth forward of the pair that it enters
-abbrev pub backOf : List (List ℕ) → ℕ → ℕ → ℕ
-backOf backs p q = at backs (p / 16) (q / 16)
-
-abbrev pub forwardOf : List ℕ → List (List ℕ) → ℕ → ℕ → ℕ
-forwardOf next forwards p q = at forwards (getD next p 0) (getD next q 0)
-
--- both are endless
-pub record BothEndless (next : List ℕ) (backs forwards : List (List ℕ)) (p q : ℕ) : Type 0 where
-  pub back-endless : backOf backs p q ≡ 255
-  pub forward-endless : forwardOf next forwards p q ≡ 255
 
 -- An edge that was counted: the table has at its depth forward at least its depth back, and it is not endless on both sides.
 pub record Counted (c : Coder) (backs forwards : List (List ℕ)) (worst : List ℕ) (p q : ℕ) : Type 0 where
@@ -39,15 +21,15 @@ pub record Counted (c : Coder) (backs forwards : List (List ℕ)) (worst : List 
   pub finite : BothEndless (c .next) backs forwards p q → ⊥
 
 -- what the table has was counted at some edge
-pub record Source (c : Coder) (backs forwards : List (List ℕ)) (f x : ℕ) : Type 0 where
+pub record Source (c : Coder) (conflicts : List ℕ) (backs forwards : List (List ℕ)) (f x : ℕ) : Type 0 where
   pub p : ℕ
   pub q : ℕ
-  pub conflicting : Conflicting c p q
+  pub conflicting : Conflicting c conflicts p q
   pub forward-is : forwardOf (c .next) forwards p q ≡ f
   pub back-is : backOf backs p q ≡ x
 
-abbrev pub Sources : Coder → List (List ℕ) → List (List ℕ) → List ℕ → Type 0
-Sources c backs forwards worst = (f : ℕ) → 0 < getD worst f 0 → Source c backs forwards f (getD worst f 0)
+abbrev pub Sources : Coder → List ℕ → List (List ℕ) → List (List ℕ) → List ℕ → Type 0
+Sources c conflicts backs forwards worst = (f : ℕ) → 0 < getD worst f 0 → Source c conflicts backs forwards f (getD worst f 0)
 
 -- the table with x taken in at f
 unfoldable pub raised : List ℕ → ℕ → ℕ → List ℕ
@@ -87,13 +69,13 @@ pub record RowAsked (previous next : List ℕ) (p from : ℕ) (before : List ℕ
   pub of : RowOf c previous next p from
   pub size : length before ≡ 256
 
-pub record RowDone (c : Coder) (backs forwards : List (List ℕ)) (p : ℕ) (before : List ℕ) (r : ℕ) (after : List ℕ) : Type 0 where
+pub record RowDone (c : Coder) (conflicts : List ℕ) (backs forwards : List (List ℕ)) (p : ℕ) (before : List ℕ) (r : ℕ) (after : List ℕ) : Type 0 where
   pub high : r ≤ 256
   pub size : length after ≡ 256
   pub grows : Grows before after
-  pub sources : Sources c backs forwards before → Sources c backs forwards after
-  pub none : r ≡ 0 → (q : ℕ) → Conflicting c p q → Counted c backs forwards after p q
-  pub some : (q : ℕ) → r ≡ suc q → Conflicting c p q × BothEndless (c .next) backs forwards p q
+  pub sources : Sources c conflicts backs forwards before → Sources c conflicts backs forwards after
+  pub none : r ≡ 0 → (q : ℕ) → Conflicting c conflicts p q → Counted c backs forwards after p q
+  pub some : 0 < r → EndlessConflict c conflicts backs forwards p (r - 1)
 
 pub record ConflictsAsked (c : Coder) (last previous before : List ℕ) : Type 0 where
   pub size : length before ≡ 256
@@ -101,12 +83,12 @@ pub record ConflictsAsked (c : Coder) (last previous before : List ℕ) : Type 0
   pub chained : Chained (c .output) (c .states) (c .inputs) (record { last = last; previous = previous })
 
 -- all conflicting edges are counted, or one is found that is endless on both sides
-pub record ConflictsDone (c : Coder) (backs forwards : List (List ℕ)) (before : List ℕ) (e : Edge) (after : List ℕ) : Type 0 where
+pub record ConflictsDone (c : Coder) (conflicts : List ℕ) (backs forwards : List (List ℕ)) (before : List ℕ) (e : Edge) (after : List ℕ) : Type 0 where
   pub size : length after ≡ 256
-  pub sources : Sources c backs forwards before → Sources c backs forwards after
-  pub none : e .x ≡ 0 → (p q : ℕ) → Conflicting c p q → Counted c backs forwards after p q
+  pub sources : Sources c conflicts backs forwards before → Sources c conflicts backs forwards after
+  pub none : e .x ≡ 0 → (p q : ℕ) → Conflicting c conflicts p q → Counted c backs forwards after p q
   pub found : 0 < e .x → 0 < e .y
-  pub some : (p q : ℕ) → e .x ≡ suc p → e .y ≡ suc q → Conflicting c p q × BothEndless (c .next) backs forwards p q
+  pub some : 0 < e .x → EndlessConflict c conflicts backs forwards (e .x - 1) (e .y - 1)
 
 -- x is the most that the table has past place a
 pub record MostPast (worst : List ℕ) (a x : ℕ) : Type 0 where
@@ -114,13 +96,13 @@ pub record MostPast (worst : List ℕ) (a x : ℕ) : Type 0 where
   pub source : 0 < x → (f : ℕ) × (a < f) × (f < 256) × (getD worst f 0 ≡ x)
 
 -- For each lookahead the letters before that it needs: the greatest depth back of a conflicting edge to a pair that stands at that
--- level forward; 255 where no number of letters is enough.
+-- level forward; `endless` where no number of letters is enough.
 abbrev pub Needs : List ℕ → List ℕ → Type 0
-Needs worst need = (a : ℕ) → a < 255 → MostPast worst a (getD need a 0)
+Needs worst need = (a : ℕ) → a < endless → MostPast worst a (getD need a 0)
 
--- the window is a candidate, and comes in R no later than any other candidate of lookahead up to 136
+-- the window is a candidate, and comes in R no later than any other candidate of lookahead up to maxSide
 pub record Chosen (R : Relation) (need : List ℕ) (w : Window) : Type 0 where
-  pub lookahead : w .after ≤ 136
-  pub finite : getD need (w .after) 0 < 255
+  pub lookahead : w .after ≤ maxSide
+  pub finite : getD need (w .after) 0 < endless
   pub is : w .before ≡ getD need (w .after) 0
-  pub first : (a : ℕ) → a ≤ 136 → getD need a 0 < 255 → R (w .before) (w .after) (getD need a 0) a
+  pub first : (a : ℕ) → a ≤ maxSide → getD need a 0 < endless → R (w .before) (w .after) (getD need a 0) a

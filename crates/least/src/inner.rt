@@ -6,12 +6,16 @@ ghost use Rattle.mealy.specs.Order.{FewestLetters};
 ghost use Rattle.coder.specs.declared.inner.tables.Coder.{Coder as CoderOf};
 ghost use lib.ListN.{getD};
 ghost use lib.Dec.{eqb};
-ghost use Rattle.least.specs.Need.{raised, CountAsked, CountedOne, RowAsked, RowOf, RowDone, ConflictsAsked, ConflictsDone, Needs, Chosen};
+ghost use Rattle.coder.specs.Limits.{maxSide};
+ghost use Rattle.product.specs.Depth.{endless};
+ghost use Rattle.least.specs.Need.{raised, CountAsked, CountedOne, RowAsked, RowOf, RowDone, ConflictsAsked, ConflictsDone};
+ghost use Rattle.least.specs.Need.{Needs, Chosen};
 use chains::inner::wide;
 use coder::inner::bytes::number;
-use coder::inner::letters::conflict;
 use coder::inner::tables::Coder;
+use product::inner::ENDLESS;
 use product::inner::Edge;
+use setting::inner::has;
 use values::Window;
 
 // Takes x in at place f of the table: the larger of the two stays.
@@ -39,20 +43,20 @@ fn count<'a>(
     let b = backs[p / 16][q / 16];
     let u = number(next[p]);
     let v = number(next[q]);
-    let f = number(forwards[u][v]);
-    if endless(b, f) {
+    let f = forwards[u][v];
+    if both_endless(b, f) {
         return true;
     }
-    raise(worst, f, b);
+    raise(worst, number(f), b);
     false
 }
 
 // Whether both depths are endless.
-fn endless(b: u8, f: usize) -> bool
-    ensures { λ r. ⌜ r ≡ (eqb b 255 && eqb f 255) ⌝ }
+fn both_endless(b: u8, f: u8) -> bool
+    ensures { λ r. ⌜ r ≡ (eqb b endless && eqb f endless) ⌝ }
 {
-    if b == 255 {
-        return f == 255;
+    if b == ENDLESS {
+        return f == ENDLESS;
     }
     false
 }
@@ -62,6 +66,7 @@ fn endless(b: u8, f: usize) -> bool
 fn row<'a>(
     previous: &'a [u16; 256],
     next: &'a [u8; 256],
+    conflicts: &'a [u16; 16],
     backs: &'a [[u8; 16]; 16],
     forwards: &'a [[u8; 16]; 16],
     p: usize,
@@ -69,14 +74,15 @@ fn row<'a>(
     worst: &mut [u8; 256],
 ) -> usize
     requires { ⌜ RowAsked (now previous) (now next) p from (now worst) ⌝ }
-    ensures { λ r. ⌜ ((c : CoderOf) → RowOf c (now (previous .entry)) (now (next .entry)) p from → RowDone c (now (backs .entry)) (now (forwards .entry)) p (now (worst .entry)) r (now (worst .exit))) ⌝ }
+    ensures { λ r. ⌜ ((c : CoderOf) → RowOf c (now (previous .entry)) (now (next .entry)) p from → RowDone c (now (conflicts .entry)) (now (backs .entry)) (now (forwards .entry)) p (now (worst .entry)) r (now (worst .exit))) ⌝ }
 {
+    let set = conflicts[p % 16];
     let mut y = from;
     while 0 < y {
         let here = y;
         let q = y - 1;
         y = wide(previous[q]);
-        if conflict(p % 16, q % 16) {
+        if has(set, q % 16) {
             if count(next, backs, forwards, p, q, worst) {
                 return here;
             }
@@ -85,17 +91,18 @@ fn row<'a>(
     0
 }
 
-// Counts all conflicting edges, or finds one that is endless on both sides; its x is 0 where there is none.
-pub fn conflicts<'a>(
+// Counts all conflicting edges, word i of `conflicts` holding the letters that conflict with i, or finds one that is endless on both sides; its x is 0 where there is none.
+pub fn count_edges<'a>(
     c: Coder,
     last: &'a [u16; 64],
     previous: &'a [u16; 256],
+    conflicts: &'a [u16; 16],
     backs: &'a [[u8; 16]; 16],
     forwards: &'a [[u8; 16]; 16],
     worst: &mut [u8; 256],
 ) -> Edge
     requires { ⌜ ConflictsAsked c (now last) (now previous) (now worst) ⌝ }
-    ensures { λ r. ⌜ ConflictsDone c (now (backs .entry)) (now (forwards .entry)) (now (worst .entry)) r (now (worst .exit)) ⌝ }
+    ensures { λ r. ⌜ ConflictsDone c (now (conflicts .entry)) (now (backs .entry)) (now (forwards .entry)) (now (worst .entry)) r (now (worst .exit)) ⌝ }
 {
     let inputs = c.inputs;
     let end = 16 * c.states;
@@ -106,7 +113,16 @@ pub fn conflicts<'a>(
         if place % 16 < inputs {
             let o = number(c.output[place]);
             let from = wide(last[o]);
-            let y = row(previous, &c.next, backs, forwards, place, from, worst);
+            let y = row(
+                previous,
+                &c.next,
+                conflicts,
+                backs,
+                forwards,
+                place,
+                from,
+                worst,
+            );
             if y != 0 {
                 return Edge { x: p, y };
             }
@@ -121,7 +137,7 @@ pub fn needs(worst: &[u8; 256]) -> [u8; 256]
 {
     let mut need = [0u8; 256];
     let mut most = 0;
-    let mut f = 255;
+    let mut f = number(ENDLESS);
     while 0 < f {
         most = larger(most, worst[f]);
         f -= 1;
@@ -138,16 +154,17 @@ fn larger(x: u8, y: u8) -> u8
 
 // The first of the candidates: fewest letters, and of equally many least lookahead.
 pub fn choose(need: &[u8; 256]) -> Window
-    requires { ⌜ getD (now need) 136 0 < 255 ⌝ }
+    requires { ⌜ getD (now need) maxSide 0 < endless ⌝ }
     ensures { λ r. ⌜ Chosen FewestLetters (now (need .entry)) r ⌝ }
 {
-    let mut before = number(need[136]);
-    let mut after = 136;
-    let mut a = 136;
+    let mut before = number(need[Coder::SIDE]);
+    let mut after = Coder::SIDE;
+    let mut a = Coder::SIDE;
     while 0 < a {
         a -= 1;
-        let b = number(need[a]);
-        if b < 255 {
+        let x = need[a];
+        if x < ENDLESS {
+            let b = number(x);
             if b + a <= before + after {
                 before = b;
                 after = a;

@@ -10,20 +10,20 @@ use lib.ListN.{length, getD, drop, length-drop}
 use lib.Seq.{getD-drop, ext-getD}
 use borrow.Author.Tests.{lt-ltb, le-ltb}
 use Rattle.mealy.specs.Machine.{Machine}
-use Rattle.mealy.specs.Setting.{Setting, flagged}
+use Rattle.mealy.specs.Setting.{Setting, worded}
 use Rattle.mealy.specs.Product.{Edge, back, forward}
-use Rattle.mealy.specs.LoopedPair.{Run, first, second, letterAt, letters}
+use Rattle.mealy.specs.LoopedPair.{Run, first, second, letterAt, mark, letters}
 use Rattle.mealy.proofs.Places.{ValidPlaces, valid-places}
 use Rattle.coder.specs.Table.{machineOfCoder}
 use Rattle.coder.specs.declared.inner.tables.Coder.{Coder}
 use Rattle.chains.specs.Chain.{isEntry}
 use Rattle.chains.proofs.Entries.{entry-place}
-use Rattle.product.specs.Depth.{at}
+use Rattle.product.specs.Conflict.{Conflicting}
 use Rattle.product.specs.Entries.{sources}
 use Rattle.product.specs.declared.inner.Edge as product
 use Rattle.product.proofs.Entries.{entries-edge, source-at, entry-below, far-below}
-use Rattle.loops.specs.Walk.{entryOf, after, Followable, Repeats, placeOf, Wrote}
-use Rattle.loops.specs.Pair.{EndlessConflict, FindFrom, FoundPair}
+use Rattle.loops.specs.Walk.{keptEntry, after, Followable, Repeats, placeOf, Wrote}
+use Rattle.loops.specs.Pair.{wanted, FindFrom, FoundPair}
 use Rattle.loops.specs.declared.inner.Return.{Return}
 use Rattle.values.specs.Pair.{pairOf}
 use Rattle.values.specs.declared.LoopedPair.{LoopedPair}
@@ -42,39 +42,14 @@ edge-as :
     Edge M s′ t′ i′ j′ u′ v′
 edge-as a b c d e f g = rw (a, b, c, d, e, f) g
 
--- the conflicting edge by the places of its entries
-record ConflictAt (c : Coder) (backs forwards : List (List ℕ)) (p q : ℕ) : Type 0 where
-  pub entry₁ : isEntry (c .states) (c .inputs) p ≡ true
-  pub entry₂ : isEntry (c .states) (c .inputs) q ≡ true
-  pub output : getD (c .output) p 0 ≡ getD (c .output) q 0
-  pub conflict : p % 16 ≡ q % 16 → ⊥
-  pub back-endless : at backs (p / 16) (q / 16) ≡ 255
-  pub forward-endless : at forwards (getD (c .next) p 0) (getD (c .next) q 0) ≡ 255
-
-conflict-at :
-    (c : Coder) (flags : List ℕ) {backs forwards : List (List ℕ)} (e : product.Edge) → EndlessConflict c flags backs forwards e →
-    ConflictAt c backs forwards (e .x - 1) (e .y - 1)
-conflict-at c flags e z =
-    let p : e .x - 1 ≡ z .p = omega (arith, z .first) in
-    let q : e .y - 1 ≡ z .q = omega (arith, z .second) in
-    rw (p, q)
-    record {
-      entry₁ = z .entry₁;
-      entry₂ = z .entry₂;
-      output = z .output;
-      conflict = z .conflict;
-      back-endless = z .back-endless;
-      forward-endless = z .forward-endless;
-    }
-
 -- the state of a run, from the number of a pair
 stateOf : Run → ℕ → ℕ
 stateOf first a = a / 16
 stateOf second a = a % 16
 
-module _ (c : Coder) (flags : List ℕ) {bx by fx fy : List ℕ} {e : product.Edge} (z : FindFrom c flags bx by fx fy e) where
+module _ (c : Coder) (starts : ℕ) (conflicts : List ℕ) {bx by fx fy : List ℕ} {e : product.Edge} (z : FindFrom c starts conflicts bx by fx fy e) where
   abbrev S : Setting
-  S = flagged (machineOfCoder c) flags
+  S = worded (machineOfCoder c) starts conflicts
 
   abbrev p : ℕ
   p = e .x - 1
@@ -82,13 +57,13 @@ module _ (c : Coder) (flags : List ℕ) {bx by fx fy : List ℕ} {e : product.Ed
   abbrev q : ℕ
   q = e .y - 1
 
-  at-entries : ConflictAt c (z .backs) (z .forwards) p q
-  at-entries = conflict-at c flags e (z .edge)
+  at-entries : Conflicting c conflicts p q
+  at-entries = z .edge .edge
 
   pub entries-inside : (1 ≤ e .x) × (1 ≤ e .y) × (p < 256) × (q < 256)
   entries-inside = (
-    omega (arith, z .edge .first),
-    omega (arith, z .edge .second),
+    omega (arith, z .first),
+    omega (arith, z .second),
     entry-below c (z .sound) p (at-entries .entry₁),
     entry-below c (z .sound) q (at-entries .entry₂),
   )
@@ -105,25 +80,25 @@ module _ (c : Coder) (flags : List ℕ) {bx by fx fy : List ℕ} {e : product.Ed
     back-start =
         let s = entry-place _ _ p (at-entries .entry₁) .state in
         let t = entry-place _ _ q (at-entries .entry₂) .state in
-        rw start-is (endless-pair _ _ _ _ (z .sound .states-high) s t (at-entries .back-endless))
+        rw start-is (endless-pair _ _ _ _ (z .sound .states-high) s t (z .edge .ends .back-endless))
 
     forward-start : Endless (c .states) (z .forwards) end
     forward-start =
         let s = next-low p (at-entries .entry₁) in
         let t = next-low q (at-entries .entry₂) in
-        rw end-is (endless-pair _ _ _ _ (z .sound .states-high) s t (at-entries .forward-endless))
+        rw end-is (endless-pair _ _ _ _ (z .sound .states-high) s t (z .edge .ends .forward-endless))
 
     pub back-follows : (r : ℕ) → Followable bx by sources (after bx by sources start r)
-    back-follows = walk-follows c (z .sound) flags back (z .back-found) back-start
+    back-follows = walk-follows c (z .sound) starts back (z .back-found) back-start
 
     pub forward-follows : (r : ℕ) → Followable fx fy (c .next) (after fx fy (c .next) end r)
-    forward-follows = walk-follows c (z .sound) flags forward (z .forward-found) forward-start
+    forward-follows = walk-follows c (z .sound) starts forward (z .forward-found) forward-start
 
     pub back-high : {b : Return} → Repeats bx by sources (c .states) start b → b .steps ≤ 256
-    back-high = steps-high c (z .sound) flags back (z .back-found) back-start
+    back-high = steps-high c (z .sound) starts back (z .back-found) back-start
 
     pub forward-high : {f : Return} → Repeats fx fy (c .next) (c .states) end f → f .steps ≤ 256
-    forward-high = steps-high c (z .sound) flags forward (z .forward-found) forward-start
+    forward-high = steps-high c (z .sound) starts forward (z .forward-found) forward-start
 
     module _ {b f : Return} (rb : Repeats bx by sources (c .states) start b) (rf : Repeats fx fy (c .next) (c .states) end f) where
       abbrev B : ℕ
@@ -150,7 +125,7 @@ module _ (c : Coder) (flags : List ℕ) {bx by fx fy : List ℕ} {e : product.Ed
       module _ {before filled now′ : List ℕ}
           (wb : Wrote bx by sources start (b .steps) 0 false before filled)
           (wf : Wrote fx fy (c .next) end (f .steps) (b .steps + 1) true (setTwo filled (2 * b .steps) (p % 16) (q % 16)) now′)
-          (room : 1026 ≤ length before) where
+          (room : wanted ≤ length before) where
         abbrev answer : LoopedPair
         answer =
             record {
@@ -176,7 +151,7 @@ module _ (c : Coder) (flags : List ℕ) {bx by fx fy : List ℕ} {e : product.Ed
         kept : length now′ ≡ length before
         kept = wf .size ∙ two-size filled (2 * B) (p % 16) (q % 16) ∙ wb .size
 
-        letter-back : (k r : ℕ) → suc (k + r) ≡ B → LettersAt k (entryOf bx (Back r) % 16) (entryOf by (Back r) % 16)
+        letter-back : (k r : ℕ) → suc (k + r) ≡ B → LettersAt k (keptEntry bx (Back r) % 16) (keptEntry by (Back r) % 16)
         letter-back k r h =
             let m : 2 * k + 0 ≡ 2 * placeOf false 0 B r = omega arith in
             let n : 2 * k + 1 ≡ 2 * placeOf false 0 B r + 1 = omega arith in (
@@ -193,7 +168,7 @@ module _ (c : Coder) (flags : List ℕ) {bx by fx fy : List ℕ} {e : product.Ed
             )
 
         letter-forward :
-            (k r : ℕ) → suc (B + r) ≡ k → r < f .steps → LettersAt k (entryOf fx (Forward r) % 16) (entryOf fy (Forward r) % 16)
+            (k r : ℕ) → suc (B + r) ≡ k → r < f .steps → LettersAt k (keptEntry fx (Forward r) % 16) (keptEntry fy (Forward r) % 16)
         letter-forward k r h l =
             let m : 2 * k + 0 ≡ 2 * placeOf true (B + 1) (f .steps) r = omega arith in
             let n : 2 * k + 1 ≡ 2 * placeOf true (B + 1) (f .steps) r + 1 = omega arith in
@@ -236,16 +211,16 @@ module _ (c : Coder) (flags : List ℕ) {bx by fx fy : List ℕ} {e : product.Ed
         edge-at : (k : ℕ) → k < letters (pairOf answer now′) → EdgeAt k
         edge-at k l = elim (decLt k B) [
           | yes m ↦ (let r = B - suc k in
-              edge-here k (Back (suc r)) (Back r) (entryOf bx (Back r) % 16) (entryOf by (Back r) % 16)
+              edge-here k (Back (suc r)) (Back r) (keptEntry bx (Back r) % 16) (keptEntry by (Back r) % 16)
               (pair-back k (suc r) (omega arith)) (pair-back (suc k) r (omega arith)) (letter-back k r (omega arith))
-              (walk-step c (z .sound) flags back (z .back-found) back-start r))
+              (walk-step c (z .sound) starts back (z .back-found) back-start r))
           | no m ↦ elim (ℕ-discrete k B) [
             | yes h ↦ rw h edge-mark
             | no h ↦ (let r = k - suc B in
-                edge-here k (Forward r) (Forward (suc r)) (entryOf fx (Forward r) % 16) (entryOf fy (Forward r) % 16)
+                edge-here k (Forward r) (Forward (suc r)) (keptEntry fx (Forward r) % 16) (keptEntry fy (Forward r) % 16)
                 (pair-forward k r (omega arith)) (pair-forward (suc k) (suc r) (omega arith))
                 (letter-forward k r (omega arith) (omega (arith, l, rb .later, rf .later)))
-                (walk-step c (z .sound) flags forward (z .forward-found) forward-start r))
+                (walk-step c (z .sound) starts forward (z .forward-found) forward-start r))
           ]
         ]
 
@@ -254,12 +229,13 @@ module _ (c : Coder) (flags : List ℕ) {bx by fx fy : List ℕ} {e : product.Ed
         places = record {
           held = omega (arith, room, kept, back-high rb, forward-high rf, rb .later, rf .later);
           starts = λ r. elim r [ first ↦ ap (λ x. x / 16) begins | second ↦ ap (λ x. x % 16) begins ];
-          start = λ r. elim r [ first ↦ starts .0 | second ↦ starts .1 ];
+          start = λ r. elim r [ first ↦ both-start .0 | second ↦ both-start .1 ];
           back-letter = omega (arith, rb .later);
           forward-letter = omega (arith, rf .later);
           edges = edge-at;
-          conflict = λ h. at-entries .conflict
-              (sym (letter-mark _ (omega (arith, rb .later)) .0) ∙ h ∙ letter-mark _ (omega (arith, rb .later)) .1);
+          conflict =
+              let m = letter-mark (mark (pairOf answer now′)) (omega (arith, rb .later)) in
+              rw (m .0, m .1) (at-entries .conflict);
           back-closed = λ r. ap (stateOf r)
               (pair-back (B - b .lead) (b .lead) (omega (arith, rb .later)) ∙ sym (rb .again) ∙ sym (pair-back 0 B (omega arith)));
           forward-closed = λ r. ap (stateOf r)
@@ -270,17 +246,17 @@ module _ (c : Coder) (flags : List ℕ) {bx by fx fy : List ℕ} {e : product.Ed
             begins : pairAt 0 ≡ b .pair
             begins = pair-back 0 B (omega arith) ∙ sym (rb .pair)
 
-            starts : S .Start (b .pair / 16) × S .Start (b .pair % 16)
-            starts =
-                let endless = endless-after c (z .sound) flags back (z .back-found) back-start B in
-                rw (rb .pair) (endless-start c (z .sound) flags back (z .back-found) endless)
+            both-start : S .Start (b .pair / 16) × S .Start (b .pair % 16)
+            both-start =
+                let endless = endless-after c (z .sound) starts back (z .back-found) back-start B in
+                rw (rb .pair) (endless-start c (z .sound) starts back (z .back-found) endless)
 
-        pub found-pair : FoundPair c flags answer before now′
+        pub found-pair : FoundPair c starts conflicts answer before now′
         found-pair = record {
           valid = valid-places S (pairOf answer now′) σ places;
           short = record {
-            before = omega (arith, rb .later, steps-bound c (z .sound) flags back (z .back-found) back-start rb);
-            after = omega (arith, rf .later, steps-bound c (z .sound) flags forward (z .forward-found) forward-start rf);
+            before = omega (arith, rb .later, steps-bound c (z .sound) starts back (z .back-found) back-start rb);
+            after = omega (arith, rf .later, steps-bound c (z .sound) starts forward (z .forward-found) forward-start rf);
           };
           size = kept;
           rest = drop-same (2 * letters (pairOf answer now′)) now′ before kept (λ k l.

@@ -7,7 +7,7 @@ use native.Mathlib.Omega.{arith}
 use borrow.Author.Count.{below-more}
 use lib.ListN.{length, getD, set, length-set}
 use lib.Seq.{getD-set-same, getD-set-other}
-use Rattle.loops.specs.Walk.{step, entryOf, after, placeOf, Wrote}
+use Rattle.loops.specs.Walk.{step, keptEntry, after, placeOf, Wrote}
 use Rattle.loops.proofs.Walking.{pair-more}
 
 -- ---- the places of steps
@@ -45,8 +45,8 @@ module _ (xs ys far : List ℕ) (from n place : ℕ) (up : Bool) (before : List 
   pub record WroteTo (r a : ℕ) (now′ : List ℕ) : Type 0 where
     pub is : a ≡ after xs ys far from r
     pub size : length now′ ≡ length before
-    pub first : (j : ℕ) → j < r → getD now′ (2 * placeOf up place n j) 0 ≡ entryOf xs (after xs ys far from j) % 16
-    pub second : (j : ℕ) → j < r → getD now′ (2 * placeOf up place n j + 1) 0 ≡ entryOf ys (after xs ys far from j) % 16
+    pub first : (j : ℕ) → j < r → getD now′ (2 * placeOf up place n j) 0 ≡ keptEntry xs (after xs ys far from j) % 16
+    pub second : (j : ℕ) → j < r → getD now′ (2 * placeOf up place n j + 1) 0 ≡ keptEntry ys (after xs ys far from j) % 16
     pub earlier : (k : ℕ) → k < 2 * place → getD now′ k 0 ≡ getD before k 0
     pub later : (k : ℕ) → 2 * (place + n) ≤ k → getD now′ k 0 ≡ getD before k 0
 
@@ -63,14 +63,14 @@ module _ (xs ys far : List ℕ) (from n place : ℕ) (up : Bool) (before : List 
 
   module _ {r a : ℕ} {now′ : List ℕ} (w : WroteTo r a now′) where
     pub wrote-more : r < n → 2 * (place + n) ≤ length before → (p b x y : ℕ) → p ≡ placeOf up place n r → b ≡ step xs ys far a
-        → x ≡ entryOf xs a % 16 → y ≡ entryOf ys a % 16 → WroteTo (r + 1) b (setTwo now′ (2 * p) x y)
+        → x ≡ keptEntry xs a % 16 → y ≡ keptEntry ys a % 16 → WroteTo (r + 1) b (setTwo now′ (2 * p) x y)
     wrote-more l room p b x y e f g h = record {
       is = f ∙ ap (step xs ys far) (w .is) ∙ sym (pair-more xs ys far from r);
       size = two-size now′ (2 * p) x y ∙ w .size;
-      first = below-more (λ j. getD all (2 * placeOf up place n j) 0 ≡ entryOf xs (after xs ys far from j) % 16) r
+      first = below-more (λ j. getD all (2 * placeOf up place n j) 0 ≡ keptEntry xs (after xs ys far from j) % 16) r
           (λ j m. two-other now′ (2 * p) x y _ (λ d. apart j m (omega arith)) (λ d. omega arith) ∙ w .first j m)
           (rw (← e, ← (w .is)) (two-first now′ (2 * p) x y inside ∙ g));
-      second = below-more (λ j. getD all (2 * placeOf up place n j + 1) 0 ≡ entryOf ys (after xs ys far from j) % 16) r
+      second = below-more (λ j. getD all (2 * placeOf up place n j + 1) 0 ≡ keptEntry ys (after xs ys far from j) % 16) r
           (λ j m. two-other now′ (2 * p) x y _ (λ d. omega arith) (λ d. apart j m (omega arith)) ∙ w .second j m)
           (rw (← e, ← (w .is)) (two-second now′ (2 * p) x y inside ∙ h));
       earlier = λ k m. two-other now′ (2 * p) x y k (λ d. omega (arith, within)) (λ d. omega (arith, within)) ∙ w .earlier k m;

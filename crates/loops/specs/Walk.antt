@@ -7,12 +7,12 @@ use lib.ListN.{length, getD}
 use Rattle.loops.specs.declared.inner.Return.{Return}
 
 -- the place of an entry of the edge kept for the pair a: of the first with xs, of the second with ys
-abbrev pub entryOf : List ℕ → ℕ → ℕ
-entryOf xs a = getD xs a 0 - 1
+abbrev pub keptEntry : List ℕ → ℕ → ℕ
+keptEntry xs a = getD xs a 0 - 1
 
 -- the pair at the far end of that edge
 abbrev pub step : List ℕ → List ℕ → List ℕ → ℕ → ℕ
-step xs ys far a = 16 * getD far (entryOf xs a) 0 + getD far (entryOf ys a) 0
+step xs ys far a = 16 * getD far (keptEntry xs a) 0 + getD far (keptEntry ys a) 0
 
 -- the pair after r steps from a
 unfoldable pub after : List ℕ → List ℕ → List ℕ → ℕ → ℕ → ℕ
@@ -26,8 +26,8 @@ pub record Followable (xs ys far : List ℕ) (a : ℕ) : Type 0 where
   pub first-high : getD xs a 0 ≤ 256
   pub second-low : 1 ≤ getD ys a 0
   pub second-high : getD ys a 0 ≤ 256
-  pub far₁ : getD far (entryOf xs a) 0 < 16
-  pub far₂ : getD far (entryOf ys a) 0 < 16
+  pub far₁ : getD far (keptEntry xs a) 0 < 16
+  pub far₂ : getD far (keptEntry ys a) 0 < 16
 
 -- Where every pair of the walk is of two states below n: it comes back within n × n steps.
 pub record Repeats (xs ys far : List ℕ) (n from : ℕ) (r : Return) : Type 0 where
@@ -48,7 +48,7 @@ pub record WriteAsked (xs ys far : List ℕ) (from n place : ℕ) (before : List
 -- the letters of n steps stand from `place` on, two bytes each, and the other bytes stay
 pub record Wrote (xs ys far : List ℕ) (from n place : ℕ) (up : Bool) (before now′ : List ℕ) : Type 0 where
   pub size : length now′ ≡ length before
-  pub first : (r : ℕ) → r < n → getD now′ (2 * placeOf up place n r) 0 ≡ entryOf xs (after xs ys far from r) % 16
-  pub second : (r : ℕ) → r < n → getD now′ (2 * placeOf up place n r + 1) 0 ≡ entryOf ys (after xs ys far from r) % 16
+  pub first : (r : ℕ) → r < n → getD now′ (2 * placeOf up place n r) 0 ≡ keptEntry xs (after xs ys far from r) % 16
+  pub second : (r : ℕ) → r < n → getD now′ (2 * placeOf up place n r + 1) 0 ≡ keptEntry ys (after xs ys far from r) % 16
   pub earlier : (k : ℕ) → k < 2 * place → getD now′ k 0 ≡ getD before k 0
   pub later : (k : ℕ) → 2 * (place + n) ≤ k → getD now′ k 0 ≡ getD before k 0

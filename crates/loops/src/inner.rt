@@ -101,7 +101,7 @@ pub fn find<'a>(
     letters: &mut [u8],
 ) -> LoopedPair
     requires { ⌜ FindAsked c (now bx) (now by) (now fx) (now fy) e (now letters) ⌝ }
-    ensures { λ r. ⌜ ((flags : List ℕ) → FindFrom c flags (now (bx .entry)) (now (by .entry)) (now (fx .entry)) (now (fy .entry)) e → FoundPair c flags r (now (letters .entry)) (now (letters .exit))) ⌝ }
+    ensures { λ r. ⌜ ((starts : ℕ) (conflicts : List ℕ) → FindFrom c starts conflicts (now (bx .entry)) (now (by .entry)) (now (fx .entry)) (now (fy .entry)) e → FoundPair c starts conflicts r (now (letters .entry)) (now (letters .exit))) ⌝ }
 {
     let states = c.states;
     let source = product::inner::source();

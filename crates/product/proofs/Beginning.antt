@@ -1,6 +1,5 @@
 -- Before the first round: the start square and the first edges, place by place.
 use mathlib.Core.Path.{_≡_, refl, ap, _∙_}
-use mathlib.Core.Bool.{Bool, true, false, cond}
 use mathlib.Core.List.{List, []}
 use Prim.Native.Nat.{ℕ, _+_, _*_, _/_, _%_, _≤_, _<_}
 use native.Mathlib.Omega.{arith}
@@ -8,19 +7,20 @@ use native.Mathlib.Decide.{ℕ-discrete, decLt}
 use borrow.Author.Count.{below-more}
 use lib.ListN.{length, getD, set, replicate, length-set, getD-replicate}
 use lib.Seq.{getD-set-same, getD-set-other}
-use Rattle.product.specs.Depth.{at, Square}
+use Rattle.product.specs.Depth.{at, endless, Square}
 use Rattle.product.specs.Rounds.{Kept, FirstEdges}
 use Rattle.product.proofs.Squares.{put, put-same, put-other, put-square}
 
--- ---- a square filled by a test, from place 0 on
+-- ---- a square with the pairs of P endless and the others 0, from place 0 on
 
 abbrev zeros : List (List ℕ)
 zeros = replicate 16 (replicate 16 0)
 
-module _ (test : ℕ → ℕ → Bool) where
+module _ (P : ℕ → ℕ → Type 0) where
   pub record FilledTo (a : ℕ) (d : List (List ℕ)) : Type 0 where
     pub shape : Square d
-    pub is : (u v : ℕ) → u < 16 → v < 16 → 16 * u + v < a → at d u v ≡ cond (test u v) 255 0
+    pub yes′ : (u v : ℕ) → u < 16 → v < 16 → 16 * u + v < a → P u v → at d u v ≡ endless
+    pub no′ : (u v : ℕ) → u < 16 → v < 16 → 16 * u + v < a → (P u v → ⊥) → at d u v ≡ 0
     pub zero-from : (u v : ℕ) → u < 16 → v < 16 → a ≤ 16 * u + v → at d u v ≡ 0
 
   zero-at : (u v : ℕ) → u < 16 → v < 16 → at zeros u v ≡ 0
@@ -29,43 +29,59 @@ module _ (test : ℕ → ℕ → Bool) where
   pub filled-start : FilledTo 0 zeros
   filled-start = record {
     shape = record { rows = refl; columns = λ u l. ap length (getD-replicate {A = List ℕ} 16 u (replicate 16 0) [] l) };
-    is = λ u v l m n. absurd (omega arith);
+    yes′ = λ u v l m n. absurd (omega arith);
+    no′ = λ u v l m n. absurd (omega arith);
     zero-from = λ u v l m n. zero-at u v l m;
   }
 
   module _ {a : ℕ} {d : List (List ℕ)} (f : FilledTo a d) (inside : a < 256) where
-    pub filled-put : test (a / 16) (a % 16) ≡ true → FilledTo (a + 1) (put d (a / 16) (a % 16) 255)
-    filled-put e = record {
-      shape = put-square (f .shape) (a / 16) (a % 16) 255 (omega arith) (omega arith);
-      is = λ u v l m n. elim (ℕ-discrete (16 * u + v) a) [
-        | yes g ↦ (let p : u ≡ a / 16 = omega arith in let q : v ≡ a % 16 = omega arith in
-            rw (p, q, put-same (f .shape) (a / 16) (a % 16) 255 (omega arith) (omega arith), e))
-        | no g ↦ put-other (f .shape) (a / 16) (a % 16) 255 (omega arith) (omega arith) u v (λ p q. g (omega arith)) ∙ f .is u v l m (omega arith)
-      ];
-      zero-from =
-          λ u v l m n. put-other (f .shape) (a / 16) (a % 16) 255 (omega arith) (omega arith) u v (λ p q. omega arith) ∙ f .zero-from u v
-          l m (omega arith);
-    }
+    -- the pair at place a
+    here : (u v : ℕ) → v < 16 → 16 * u + v ≡ a → (u ≡ a / 16) × (v ≡ a % 16)
+    here u v m e = (omega arith, omega arith)
 
-    pub filled-skip : test (a / 16) (a % 16) ≡ false → FilledTo (a + 1) d
-    filled-skip e = record {
+    pub filled-put : P (a / 16) (a % 16) → FilledTo (a + 1) (put d (a / 16) (a % 16) endless)
+    filled-put p = record {
+      shape = put-square (f .shape) (a / 16) (a % 16) endless (omega arith) (omega arith);
+      yes′ = λ u v l m n q. elim (ℕ-discrete (16 * u + v) a) [
+        | yes e ↦ (let w = here u v m e in
+            rw (w .0, w .1) (put-same (f .shape) (a / 16) (a % 16) endless (omega arith) (omega arith)))
+        | no e ↦ stays u v (λ x y. e (omega arith)) ∙ f .yes′ u v l m (omega arith) q
+      ];
+      no′ = λ u v l m n q. elim (ℕ-discrete (16 * u + v) a) [
+        | yes e ↦ (let w = here u v m e in absurd (q (rw (w .0, w .1) p)))
+        | no e ↦ stays u v (λ x y. e (omega arith)) ∙ f .no′ u v l m (omega arith) q
+      ];
+      zero-from = λ u v l m n. stays u v (λ x y. omega arith) ∙ f .zero-from u v l m (omega arith);
+    }
+      where
+        stays : (u v : ℕ) → (u ≡ a / 16 → v ≡ a % 16 → ⊥) → at (put d (a / 16) (a % 16) endless) u v ≡ at d u v
+        stays = put-other (f .shape) (a / 16) (a % 16) endless (omega arith) (omega arith)
+
+    pub filled-skip : (P (a / 16) (a % 16) → ⊥) → FilledTo (a + 1) d
+    filled-skip p = record {
       shape = f .shape;
-      is = λ u v l m n. elim (ℕ-discrete (16 * u + v) a) [
-        | yes g ↦ (let p : u ≡ a / 16 = omega arith in let q : v ≡ a % 16 = omega arith in
-            f .zero-from u v l m (omega arith) ∙ rw (p, q, e))
-        | no g ↦ f .is u v l m (omega arith)
+      yes′ = λ u v l m n q. elim (ℕ-discrete (16 * u + v) a) [
+        | yes e ↦ (let w = here u v m e in absurd (p (rw (w .0, w .1) at q)))
+        | no e ↦ f .yes′ u v l m (omega arith) q
+      ];
+      no′ = λ u v l m n q. elim (ℕ-discrete (16 * u + v) a) [
+        | yes e ↦ f .zero-from u v l m (omega arith)
+        | no e ↦ f .no′ u v l m (omega arith) q
       ];
       zero-from = λ u v l m n. f .zero-from u v l m (omega arith);
     }
 
-  -- where the test fails from place a on, that is all
-  pub filled-all :
-      {a : ℕ} {d : List (List ℕ)} → FilledTo a d → ((u v : ℕ) → a ≤ 16 * u + v → v < 16 → test u v ≡ false) → (u v : ℕ) → u < 16 → v < 16 →
-      at d u v ≡ cond (test u v) 255 0
-  filled-all {a} f none u v l m = elim (decLt (16 * u + v) a) [
-    | yes n ↦ f .is u v l m n
-    | no n ↦ f .zero-from u v l m (omega arith) ∙ rw (none u v (omega arith) m)
-  ]
+  -- where no pair from place a on is in P, that is all
+  module _ {a : ℕ} {d : List (List ℕ)} (f : FilledTo a d) where
+    pub filled-yes :
+        ((u v : ℕ) → a ≤ 16 * u + v → v < 16 → P u v → ⊥) → (u v : ℕ) → u < 16 → v < 16 → P u v → at d u v ≡ endless
+    filled-yes none u v l m p = elim (decLt (16 * u + v) a) [
+      | yes n ↦ f .yes′ u v l m n p
+      | no n ↦ absurd (none u v (omega arith) m p)
+    ]
+
+    pub filled-no : (u v : ℕ) → u < 16 → v < 16 → (P u v → ⊥) → at d u v ≡ 0
+    filled-no u v l m p = elim (decLt (16 * u + v) a) [ yes n ↦ f .no′ u v l m n p | no n ↦ f .zero-from u v l m (omega arith) ]
 
 -- ---- the first edges
 

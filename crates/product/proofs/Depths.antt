@@ -1,31 +1,27 @@
 -- From the first round to the last: what the rounds start from, from one round to the next, and the depths at their end.
 use mathlib.Core.Path.{_≡_, refl, _∙_}
-use mathlib.Core.Bool.{Bool, true, false, _&&_}
-use mathlib.Core.List.{List}
+use mathlib.Core.List.{List, []}
 use mathlib.Core.Logic.{Dec·and}
-use Prim.Native.Nat.{ℕ, suc, _+_, _*_, _/_, _≤_, _<_}
+use Prim.Native.Nat.{ℕ, suc, _+_, _*_, _/_, _%_, _^_, _≤_, _<_}
 use native.Mathlib.Nat.{mul-le-mul}
 use native.Mathlib.Numerals.{add-one}
 use native.Mathlib.Omega.{arith}
 use native.Mathlib.Decide.{decLt, ℕ-discrete}
 use lib.ListN.{getD, List·getD-eq-default}
-use borrow.Author.Tests.{lt-ltb, eq-eqb, ltb-true, eqb-true}
-use Rattle.mealy.specs.Setting.{Setting, Bounded, flagged}
+use Rattle.mealy.specs.Setting.{Setting, Bounded, worded}
 use Rattle.mealy.specs.Product.{Direction, back, forward, Settled, pairs}
-use Rattle.mealy.proofs.Levels.{level-start, level-fall, endless}
+use Rattle.mealy.proofs.Levels.{level-start, level-fall, endless as every-level}
 use Rattle.mealy.proofs.Settling.{settled-by}
 use Rattle.coder.specs.Table.{machineOfCoder, Sound}
 use Rattle.coder.specs.declared.inner.tables.Coder.{Coder}
-use Rattle.coder.proofs.Refusals.{both-true}
 use Rattle.coder.proofs.Fill.{length-table}
 use Rattle.chains.specs.Chain.{Keys, Chained}
 use Rattle.chains.specs.declared.inner.Chain.{Chain}
-use Rattle.coder.proofs.Refusals.{true-false}
 use Rattle.chains.proofs.Chains.{last-above}
 use Rattle.chains.proofs.Entries.{has-key}
-use Rattle.product.specs.Depth.{at, Depth}
+use Rattle.product.specs.Depth.{at, endless, Depth}
 use Rattle.product.specs.Entries.{sources, nearEnds, farEnds, far, Joins, ArraysOf}
-use Rattle.product.specs.Rounds.{Seeking, RightTo, LevelOf, edgeAt, Before, After, Some, startFlag, Started, FirstEdges, DepthsFound}
+use Rattle.product.specs.Rounds.{Seeking, RightTo, CoderLevel, edgeAt, Before, After, Some, Started, FirstEdges, DepthsFound}
 use Rattle.product.proofs.Entries.{source-at, entry-below}
 use Rattle.coder.proofs.Tables.{next-high}
 use Rattle.product.proofs.Seeking.{chain-last, last-is}
@@ -56,54 +52,37 @@ pub arrays-of :
     Chained near′ (c .states) (c .inputs) chain → ArraysOf c d (chain .last) (chain .previous) (c .output) far′
 arrays-of c d s chain near′ far′ n f h = record { sound = s; output-is = refl; far-is = f; chained = rw n at h }
 
-module _ (c : Coder) (d : Direction) (flags : List ℕ) (sound : Sound c) where
+module _ (c : Coder) (d : Direction) (starts : ℕ) (sound : Sound c) where
   abbrev S : Setting
-  S = flagged (machineOfCoder c) flags
+  S = worded (machineOfCoder c) starts []
 
   abbrev L : ℕ → ℕ → ℕ → Type 0
-  L = LevelOf c d flags
+  L = CoderLevel c d starts
 
   pub start-decided : (s : ℕ) → Dec (S .Start s)
-  start-decided s = Dec·and (decLt s (c .states)) (ℕ-discrete (getD flags s 0) 1)
+  start-decided s = Dec·and (decLt s (c .states)) (ℕ-discrete (starts / 2 ^ s % 2) 1)
 
   pub start-bounded : Bounded S
   start-bounded s p = p .0
 
   -- ---- before the first round
 
-  start-true : (s : ℕ) → startFlag (c .states) flags s ≡ true → S .Start s
-  start-true s e = let b = both-true _ _ e in (ltb-true _ _ (b .0), eqb-true _ _ (b .1))
-
-  start-flag : (s : ℕ) → S .Start s → startFlag (c .states) flags s ≡ true
-  start-flag s p = rw (lt-ltb s (c .states) (p .0), eq-eqb (getD flags s 0) 1 (p .1))
-
-  module _ {square : List (List ℕ)} (h : Started (c .states) flags square) where
+  module _ {square : List (List ℕ)} (h : Started (c .states) starts square) where
     right-start : (u v : ℕ) → u < 16 → v < 16 → RightTo (λ m. L m u v) 0 (at square u v)
-    right-start u v l m = go (startFlag (c .states) flags u && startFlag (c .states) flags v) refl
-      where
-        go :
-            (b : Bool) → (startFlag (c .states) flags u && startFlag (c .states) flags v) ≡ b →
-            RightTo (λ m. L m u v) 0 (at square u v)
-        go true e =
-            let x : at square u v ≡ 255 = h .is u v l m ∙ rw e in
-            let b = both-true (startFlag (c .states) flags u) (startFlag (c .states) flags v) e in
-            record {
-              stands = λ k n s. let z : k ≡ 0 = omega arith in rw z (start-true u (b .0), start-true v (b .1));
-              below = λ k n p. omega arith;
-              shape = λ s. absurd (omega arith);
-              high = omega arith;
-            }
-        go false e =
-            let x : at square u v ≡ 0 = h .is u v l m ∙ rw e in
-            record {
-              stands = λ k n s. absurd (omega arith);
-              below = λ k n p.
-                  let z : k ≡ 0 = omega arith in
-                  let q : L 0 u v = rw z at p in
-                  absurd (true-false (rw (start-flag u (q .0), start-flag v (q .1))) e);
-              shape = λ s. omega arith;
-              high = omega arith;
-            }
+    right-start u v l m = elim (Dec·and (start-decided u) (start-decided v)) [
+      | yes p ↦ (let x = h .start u v l m p in record {
+        stands = λ k n s. let z : k ≡ 0 = omega arith in rw z p;
+        below = λ k n q. omega arith;
+        shape = λ s. absurd (omega arith);
+        high = omega arith;
+      })
+      | no p ↦ (let x = h .other u v l m p in record {
+        stands = λ k n s. absurd (omega arith);
+        below = λ k n q. let z : k ≡ 0 = omega arith in let w : L 0 u v = rw z at q in absurd (p w);
+        shape = λ s. omega arith;
+        high = omega arith;
+      })
+    ]
 
     module _ {last previous output far′ xs ys : List ℕ} (arrays : ArraysOf c d last previous output far′)
         (f : FirstEdges last (c .states) xs ys) where
@@ -123,7 +102,7 @@ module _ (c : Coder) (d : Direction) (flags : List ℕ) (sound : Sound c) where
             };
           }
 
-      pub before-start : Before c d flags 0 square xs ys
+      pub before-start : Before c d starts 0 square xs ys
       before-start = record {
         shape = h .shape;
         kept = f .kept;
@@ -134,20 +113,20 @@ module _ (c : Coder) (d : Direction) (flags : List ℕ) (sound : Sound c) where
   -- ---- from one round to the next
 
   pub before-next :
-      {k : ℕ} {square : List (List ℕ)} {xs ys : List ℕ} → k < 254 → After c d flags k square xs ys →
-      Before c d flags (k + 1) square xs ys
+      {k : ℕ} {square : List (List ℕ)} {xs ys : List ℕ} → suc k < endless → After c d starts k square xs ys →
+      Before c d starts (k + 1) square xs ys
   before-next {k} low r =
       rw (add-one k)
       record {
         shape = r .shape;
         kept = r .kept;
         right = r .right;
-        seeking = λ u v l m e. seeking-map c d flags sound k low (λ s t _ _. level-fall S d k s t) (r .sought u v l m e .seeking);
+        seeking = λ u v l m e. seeking-map c d starts sound k low (λ s t _ _. level-fall S d k s t) (r .sought u v l m e .seeking);
       }
 
   -- a round that changed something was not past N (N + 1) / 2
   pub changed-low :
-      {k : ℕ} {square : List (List ℕ)} {xs ys : List ℕ} → After c d flags k square xs ys → Some square (suc k) →
+      {k : ℕ} {square : List (List ℕ)} {xs ys : List ℕ} → After c d starts k square xs ys → Some square (suc k) →
       k < pairs (c .states)
   changed-low {k} r s =
       let h = r .right (s .u) (s .v) (s .row) (s .column) in
@@ -163,23 +142,23 @@ module _ (c : Coder) (d : Direction) (flags : List ℕ) (sound : Sound c) where
 
   -- ---- the last round
 
-  module _ {k : ℕ} {square : List (List ℕ)} {xs ys : List ℕ} (low : k ≤ pairs (c .states)) (r : After c d flags k square xs ys)
+  module _ {k : ℕ} {square : List (List ℕ)} {xs ys : List ℕ} (low : k ≤ pairs (c .states)) (r : After c d starts k square xs ys)
       (none : Some square (suc k) → ⊥) where
     k-high : k ≤ 136
     k-high = omega (arith, pairs-high (c .states) (sound .states-high))
 
     -- a depth is at most k, or endless
-    value : (u v : ℕ) → u < 16 → v < 16 → at square u v < 255 → at square u v ≤ k
+    value : (u v : ℕ) → u < 16 → v < 16 → at square u v < endless → at square u v ≤ k
     value u v l m n = elim (ℕ-discrete (at square u v) (suc k)) [
       | yes e ↦ absurd (none (record { u = u; v = v; row = l; column = m; is = e }))
       | no e ↦ omega (arith, r .right u v l m .shape n)
     ]
 
-    above : (u v : ℕ) → u < 16 → v < 16 → L k u v → at square u v ≡ 255
+    above : (u v : ℕ) → u < 16 → v < 16 → L k u v → at square u v ≡ endless
     above u v l m h =
         let x = r .right u v l m in
         let y = x .below k (omega arith) h in
-        elim (decLt (at square u v) 255) [ yes n ↦ absurd (omega (arith, value u v l m n)) | no n ↦ omega (arith, x .high) ]
+        elim (decLt (at square u v) endless) [ yes n ↦ absurd (omega (arith, value u v l m n)) | no n ↦ omega (arith, x .high) ]
 
     level-high : (m u v : ℕ) → L m u v → (u < 16) × (v < 16)
     level-high m u v h = let z = level-start S d m u v h in let n = sound .states-high in (omega (arith, z .0 .0), omega (arith, z .1 .0))
@@ -192,27 +171,27 @@ module _ (c : Coder) (d : Direction) (flags : List ℕ) (sound : Sound c) where
     depth : (u v : ℕ) → u < 16 → v < 16 → Depth (λ m. L m u v) (at square u v)
     depth u v l m =
         let x = r .right u v l m in
-        let ever : at square u v ≡ 255 → (n : ℕ) → L n u v = λ e.
-        endless S d k settled u v (x .stands k (omega arith) (omega (arith, k-high))) in
+        let ever : at square u v ≡ endless → (n : ℕ) → L n u v = λ e.
+        every-level S d k settled u v (x .stands k (omega arith) (omega (arith, k-high))) in
         record {
-          stands = λ n s. elim (decLt (at square u v) 255) [
+          stands = λ n s. elim (decLt (at square u v) endless) [
             | yes f ↦ x .stands n (omega (arith, value u v l m f)) s
             | no f ↦ ever (omega (arith, x .high)) n
           ];
           falls = λ f h. omega (arith, x .below (at square u v) (omega (arith, value u v l m f)) h);
-          endless = ever;
+          always = ever;
           high = x .high;
         }
 
     edge-of :
-        (u v p q : ℕ) → u < 16 → v < 16 → at square u v ≡ 255 → edgeAt xs ys u v .x ≡ suc p → edgeAt xs ys u v .y ≡ suc q →
-        Joins c d u v p q × (at square (far d c p) (far d c q) ≡ 255)
+        (u v p q : ℕ) → u < 16 → v < 16 → at square u v ≡ endless → edgeAt xs ys u v .x ≡ suc p → edgeAt xs ys u v .y ≡ suc q →
+        Joins c d u v p q × (at square (far d c p) (far d c q) ≡ endless)
     edge-of u v p q l m e f g =
         let j = r .sought u v l m e .edge p q f g in
         let b = level-high k _ _ (j .1) in
         (j .0, above (far d c p) (far d c q) (b .0) (b .1) (j .1))
 
-    pub depths-found : DepthsFound c d flags square xs ys
+    pub depths-found : DepthsFound c d starts square xs ys
     depths-found = record {
       depths = record {
         shape = r .shape;

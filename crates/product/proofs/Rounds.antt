@@ -1,22 +1,22 @@
 -- One round, pair by pair.
 use mathlib.Core.Path.{_≡_, refl, sym, _∙_, subst}
 use mathlib.Core.Bool.{Bool, true, false}
-use mathlib.Core.List.{List}
+use mathlib.Core.List.{List, []}
 use Prim.Native.Nat.{ℕ, suc, _+_, _-_, _*_, _/_, _%_, _≤_, _<_}
 use native.Mathlib.Numerals.{add-one}
 use native.Mathlib.Omega.{arith}
 use native.Mathlib.Decide.{decLt, ℕ-discrete}
 use lib.ListN.{getD, set, length-set}
 use lib.Seq.{getD-set-same, getD-set-other}
-use Rattle.mealy.specs.Setting.{Setting, flagged}
+use Rattle.mealy.specs.Setting.{Setting, worded}
 use Rattle.mealy.specs.Product.{Direction}
 use Rattle.mealy.proofs.Levels.{level-start, level-fall}
 use Rattle.coder.specs.Table.{machineOfCoder, Sound}
 use Rattle.coder.specs.declared.inner.tables.Coder.{Coder}
 use Rattle.coder.proofs.Refusals.{true-false}
-use Rattle.product.specs.Depth.{at, Square}
+use Rattle.product.specs.Depth.{at, endless, Square}
 use Rattle.product.specs.Entries.{far, Joins}
-use Rattle.product.specs.Rounds.{Seeking, Sought, Above, RightTo, LevelOf, Kept, edgeAt, Before, Some, Rounded}
+use Rattle.product.specs.Rounds.{Seeking, Sought, Above, RightTo, CoderLevel, Kept, edgeAt, Before, Some, Rounded}
 use Rattle.product.specs.declared.inner.Edge.{Edge}
 use Rattle.product.proofs.Entries.{far-below, joins-step, step-joins}
 use Rattle.product.proofs.Squares.{put, put-same, put-other, put-square}
@@ -25,7 +25,7 @@ use Rattle.product.proofs.Squares.{put, put-same, put-other, put-square
 
 module _ (P : ℕ → Type 0) (fall : (k : ℕ) → P (suc k) → P k) {k x : ℕ} (r : RightTo P k x) where
   -- a pair that has fallen stays fallen
-  pub right-fallen : x < 255 → RightTo P (suc k) x
+  pub right-fallen : x < endless → RightTo P (suc k) x
   right-fallen l =
       let h = r .shape l in
       record {
@@ -38,9 +38,9 @@ module _ (P : ℕ → Type 0) (fall : (k : ℕ) → P (suc k) → P k) {k x : �
         high = r .high;
       }
 
-  module _ (low : k < 254) where
+  module _ (low : suc k < endless) where
     -- one that stands at level k + 1 too
-    pub right-stands : x ≡ 255 → P (suc k) → RightTo P (suc k) x
+    pub right-stands : x ≡ endless → P (suc k) → RightTo P (suc k) x
     right-stands e p = record {
       stands = λ m n s. elim (ℕ-discrete m (suc k)) [ yes f ↦ rw f p | no f ↦ r .stands m (omega arith) s ];
       below = λ m n q. omega arith;
@@ -49,7 +49,7 @@ module _ (P : ℕ → Type 0) (fall : (k : ℕ) → P (suc k) → P k) {k x : �
     }
 
     -- and one that does not
-    pub right-falls : x ≡ 255 → (P (suc k) → ⊥) → RightTo P (suc k) (suc k)
+    pub right-falls : x ≡ endless → (P (suc k) → ⊥) → RightTo P (suc k) (suc k)
     right-falls e f = record {
       stands = λ m n s. r .stands m (omega arith) (omega arith);
       below = λ m n q. elim (ℕ-discrete m (suc k)) [ yes g ↦ absurd (f (rw g at q)) | no g ↦ omega arith ];
@@ -57,12 +57,12 @@ module _ (P : ℕ → Type 0) (fall : (k : ℕ) → P (suc k) → P k) {k x : �
       high = omega arith;
     }
 
-module _ (c : Coder) (d : Direction) (flags : List ℕ) (sound : Sound c) (k : ℕ) (low : k < 254) where
+module _ (c : Coder) (d : Direction) (starts : ℕ) (sound : Sound c) (k : ℕ) (low : suc k < endless) where
   abbrev S : Setting
-  S = flagged (machineOfCoder c) flags
+  S = worded (machineOfCoder c) starts []
 
   abbrev L : ℕ → ℕ → ℕ → Type 0
-  L = LevelOf c d flags
+  L = CoderLevel c d starts
 
   start-below : (m u v : ℕ) → L m u v → (u < c .states) × (v < c .states)
   start-below m u v h = let z = level-start S d m u v h in (z .0 .0, z .1 .0)
@@ -118,15 +118,15 @@ module _ (c : Coder) (d : Direction) (flags : List ℕ) (sound : Sound c) (k : �
     pub kept : Kept xs ys
     pub done : (u v : ℕ) → u < 16 → v < 16 → 16 * u + v < a → RightTo (λ m. L m u v) (suc k) (at square u v)
     pub left : (u v : ℕ) → u < 16 → v < 16 → a ≤ 16 * u + v → RightTo (λ m. L m u v) k (at square u v)
-    pub sought : (u v : ℕ) → u < 16 → v < 16 → 16 * u + v < a → at square u v ≡ 255 → Sought c d (L k) u v (edgeAt xs ys u v)
-    pub edge : (u v : ℕ) → u < 16 → v < 16 → 16 * u + v < a → at square u v ≡ 255 → 0 < edgeAt xs ys u v .x
+    pub sought : (u v : ℕ) → u < 16 → v < 16 → 16 * u + v < a → at square u v ≡ endless → Sought c d (L k) u v (edgeAt xs ys u v)
+    pub edge : (u v : ℕ) → u < 16 → v < 16 → 16 * u + v < a → at square u v ≡ endless → 0 < edgeAt xs ys u v .x
     pub seeking :
-        (u v : ℕ) → u < 16 → v < 16 → a ≤ 16 * u + v → at square u v ≡ 255 →
+        (u v : ℕ) → u < 16 → v < 16 → a ≤ 16 * u + v → at square u v ≡ endless →
         Seeking c d (L k) u v (edgeAt xs ys u v .x) (edgeAt xs ys u v .y)
     pub changed : b ≡ true → Some square (suc k)
     pub unchanged : b ≡ false → (u v : ℕ) → u < 16 → v < 16 → 16 * u + v < a → at square u v ≡ suc k → ⊥
 
-  pub round-start : {square : List (List ℕ)} {xs ys : List ℕ} → Before c d flags k square xs ys → InRound 0 square xs ys false
+  pub round-start : {square : List (List ℕ)} {xs ys : List ℕ} → Before c d starts k square xs ys → InRound 0 square xs ys false
   round-start b = record {
     shape = b .shape;
     kept = b .kept;
@@ -142,8 +142,8 @@ module _ (c : Coder) (d : Direction) (flags : List ℕ) (sound : Sound c) (k : �
   -- what is known of the pair at place a after it was seen to
   record Seen (u v : ℕ) (square : List (List ℕ)) (xs ys : List ℕ) (b b′ : Bool) : Type 0 where
     right : RightTo (λ m. L m u v) (suc k) (at square u v)
-    sought : at square u v ≡ 255 → Sought c d (L k) u v (edgeAt xs ys u v)
-    edge : at square u v ≡ 255 → 0 < edgeAt xs ys u v .x
+    sought : at square u v ≡ endless → Sought c d (L k) u v (edgeAt xs ys u v)
+    edge : at square u v ≡ endless → 0 < edgeAt xs ys u v .x
     changed : b′ ≡ true → Some square (suc k)
     unchanged : b′ ≡ false → (b ≡ false) × (at square u v ≡ suc k → ⊥)
 
@@ -205,7 +205,7 @@ module _ (c : Coder) (d : Direction) (flags : List ℕ) (sound : Sound c) (k : �
       | no e ↦ r .left s t l m (omega arith) .below k (omega arith) n
     ]
 
-    pub round-fallen : (at square (a / 16) (a % 16) ≡ 255 → ⊥) → InRound (a + 1) square xs ys b
+    pub round-fallen : (at square (a / 16) (a % 16) ≡ endless → ⊥) → InRound (a + 1) square xs ys b
     round-fallen f =
         let h = right-here .high in
         let g = right-here .shape (omega arith) in
@@ -217,7 +217,7 @@ module _ (c : Coder) (d : Direction) (flags : List ℕ) (sound : Sound c) (k : �
           unchanged = λ e. (e, λ z. omega arith);
         })
 
-    module _ (stands : at square (a / 16) (a % 16) ≡ 255) where
+    module _ (stands : at square (a / 16) (a % 16) ≡ endless) where
       pub seeking-here : {x y : ℕ} → x ≡ getD xs a 0 → y ≡ getD ys a 0 → Seeking c d (Above square k) (a / 16) (a % 16) x y
       seeking-here p q =
           let e : 16 * (a / 16) + a % 16 ≡ a = omega arith in
@@ -284,7 +284,7 @@ module _ (c : Coder) (d : Direction) (flags : List ℕ) (sound : Sound c) (k : �
 
   pub round-end :
       {a : ℕ} {square : List (List ℕ)} {xs ys : List ℕ} {b : Bool} → InRound a square xs ys b → a ≡ 16 * c .states →
-      Rounded c d flags k square xs ys b
+      Rounded c d starts k square xs ys b
   round-end {a} {square} {xs} {ys} {b} r e = record {
     after = record {
       shape = r .shape;
@@ -315,10 +315,10 @@ module _ (c : Coder) (d : Direction) (flags : List ℕ) (sound : Sound c) (k : �
     };
   }
     where
-      past : (u v : ℕ) → u < 16 → v < 16 → a ≤ 16 * u + v → at square u v < 255
+      past : (u v : ℕ) → u < 16 → v < 16 → a ≤ 16 * u + v → at square u v < endless
       past u v l m n =
           let h = r .left u v l m n in
-          elim (decLt (at square u v) 255) [
+          elim (decLt (at square u v) endless) [
             | yes g ↦ g
             | no g ↦ absurd (omega (arith, start-below 0 u v (h .stands 0 (omega arith) (omega arith)) .0))
           ]

@@ -1,16 +1,15 @@
 -- The rounds that find the depths, with for each pair the edge that keeps it standing.
 use Prim.Native.Nat.{ℕ, suc, _+_, _*_, _≤_, _<_}
 use mathlib.Core.Path.{_≡_}
-use mathlib.Core.Bool.{Bool, true, false, _&&_, cond}
+use mathlib.Core.Bool.{Bool, true, false}
 use mathlib.Core.List.{List}
 use lib.ListN.{length, getD}
-use lib.Dec.{ltb, eqb}
-use Rattle.mealy.specs.Setting.{flagged}
-use Rattle.mealy.specs.Product.{Direction, Level}
+use Rattle.mealy.specs.Word.{Has}
+use Rattle.mealy.specs.Product.{Direction, LevelOf}
 use Rattle.coder.specs.Table.{machineOfCoder, Sound}
 use Rattle.coder.specs.declared.inner.tables.Coder.{Coder}
 use Rattle.chains.specs.Chain.{hasKey}
-use Rattle.product.specs.Depth.{at, Square, Depths}
+use Rattle.product.specs.Depth.{at, endless, Square, Depths}
 use Rattle.product.specs.Entries.{nearEnds, farEnds, far, Joins, ArraysOf}
 use Rattle.product.specs.declared.inner.Edge.{Edge}
 
@@ -50,16 +49,20 @@ pub record SeekAsked (last previous output far′ : List ℕ) (square : List (Li
   pub seeking : Seeking c d (Above square k) u v (e .x) (e .y)
 
 -- The depth x of a pair is right up to level k: at each of these levels the pair stands exactly below x, and x is above k only
--- as 255.
+-- as `endless`.
 pub record RightTo (P : ℕ → Type 0) (k x : ℕ) : Type 0 where
   pub stands : (m : ℕ) → m ≤ k → m < x → P m
   pub below : (m : ℕ) → m ≤ k → P m → m < x
-  pub shape : x < 255 → x ≤ k
-  pub high : x ≤ 255
+  pub shape : x < endless → x ≤ k
+  pub high : x ≤ endless
 
--- the level sets of the coder c with the start states of the flags
-abbrev pub LevelOf : Coder → Direction → List ℕ → ℕ → ℕ → ℕ → Type 0
-LevelOf c d flags = Level (flagged (machineOfCoder c) flags) d
+-- s is a start state: one of the n states, and in the word
+abbrev pub StartIn : ℕ → ℕ → ℕ → Type 0
+StartIn n starts s = (s < n) × Has starts s
+
+-- the level sets of the coder c with the start states of the word
+abbrev pub CoderLevel : Coder → Direction → ℕ → ℕ → ℕ → ℕ → Type 0
+CoderLevel c d starts = LevelOf (machineOfCoder c) (StartIn (c .states) starts) d
 
 -- The edges x y kept for each pair, at place 16 u + v of two arrays.
 pub record Kept (xs ys : List ℕ) : Type 0 where
@@ -71,21 +74,21 @@ edgeAt xs ys u v = record { x = getD xs (16 * u + v) 0; y = getD ys (16 * u + v)
 
 -- Before round k: every depth is right up to level k, and the search for an edge of each pair that stands has passed over no edge to
 -- a pair of level k.
-pub record Before (c : Coder) (d : Direction) (flags : List ℕ) (k : ℕ) (square : List (List ℕ)) (xs ys : List ℕ) : Type 0 where
+pub record Before (c : Coder) (d : Direction) (starts : ℕ) (k : ℕ) (square : List (List ℕ)) (xs ys : List ℕ) : Type 0 where
   pub shape : Square square
   pub kept : Kept xs ys
-  pub right : (u v : ℕ) → u < 16 → v < 16 → RightTo (λ m. LevelOf c d flags m u v) k (at square u v)
+  pub right : (u v : ℕ) → u < 16 → v < 16 → RightTo (λ m. CoderLevel c d starts m u v) k (at square u v)
   pub seeking :
-      (u v : ℕ) → u < 16 → v < 16 → at square u v ≡ 255 →
-      Seeking c d (LevelOf c d flags k) u v (edgeAt xs ys u v .x) (edgeAt xs ys u v .y)
+      (u v : ℕ) → u < 16 → v < 16 → at square u v ≡ endless →
+      Seeking c d (CoderLevel c d starts k) u v (edgeAt xs ys u v .x) (edgeAt xs ys u v .y)
 
 -- After it: every depth is right up to level k + 1, and each pair that stands has an edge to a pair of level k.
-pub record After (c : Coder) (d : Direction) (flags : List ℕ) (k : ℕ) (square : List (List ℕ)) (xs ys : List ℕ) : Type 0 where
+pub record After (c : Coder) (d : Direction) (starts : ℕ) (k : ℕ) (square : List (List ℕ)) (xs ys : List ℕ) : Type 0 where
   pub shape : Square square
   pub kept : Kept xs ys
-  pub right : (u v : ℕ) → u < 16 → v < 16 → RightTo (λ m. LevelOf c d flags m u v) (suc k) (at square u v)
-  pub sought : (u v : ℕ) → u < 16 → v < 16 → at square u v ≡ 255 → Sought c d (LevelOf c d flags k) u v (edgeAt xs ys u v)
-  pub edge : (u v : ℕ) → u < 16 → v < 16 → at square u v ≡ 255 → 0 < edgeAt xs ys u v .x
+  pub right : (u v : ℕ) → u < 16 → v < 16 → RightTo (λ m. CoderLevel c d starts m u v) (suc k) (at square u v)
+  pub sought : (u v : ℕ) → u < 16 → v < 16 → at square u v ≡ endless → Sought c d (CoderLevel c d starts k) u v (edgeAt xs ys u v)
+  pub edge : (u v : ℕ) → u < 16 → v < 16 → at square u v ≡ endless → 0 < edgeAt xs ys u v .x
 
 -- some pair has the depth x
 pub record Some (square : List (List ℕ)) (x : ℕ) : Type 0 where
@@ -103,25 +106,26 @@ pub record Changed (square : List (List ℕ)) (k : ℕ) (r : Bool) : Type 0 wher
 pub record RoundAsked (last previous output far′ : List ℕ) (states k : ℕ) (square : List (List ℕ)) (xs ys : List ℕ) : Type 0 where
   pub c : Coder
   pub d : Direction
-  pub flags : List ℕ
+  pub starts : ℕ
   pub arrays : ArraysOf c d last previous output far′
   pub states-is : states ≡ c .states
-  pub before : Before c d flags k square xs ys
-  pub level : k < 254
+  pub before : Before c d starts k square xs ys
+  pub level : suc k < endless
 
 -- what a round does
-pub record Rounded (c : Coder) (d : Direction) (flags : List ℕ) (k : ℕ) (square : List (List ℕ)) (xs ys : List ℕ) (r : Bool) : Type 0 where
-  pub after : After c d flags k square xs ys
+pub record Rounded (c : Coder) (d : Direction) (starts : ℕ) (k : ℕ) (square : List (List ℕ)) (xs ys : List ℕ) (r : Bool) : Type 0 where
+  pub after : After c d starts k square xs ys
   pub changed : Changed square k r
 
--- whether both states of a pair are start states
-abbrev pub startFlag : ℕ → List ℕ → ℕ → Bool
-startFlag n flags s = ltb s n && eqb (getD flags s 0) 1
+-- both states of a pair are start states
+abbrev pub BothStart : ℕ → ℕ → ℕ → ℕ → Type 0
+BothStart n starts u v = StartIn n starts u × StartIn n starts v
 
--- Before the first round: depth 255 for the pairs of start states, 0 for the others.
-pub record Started (n : ℕ) (flags : List ℕ) (square : List (List ℕ)) : Type 0 where
+-- Before the first round: the pairs of start states are endless, the others have depth 0.
+pub record Started (n starts : ℕ) (square : List (List ℕ)) : Type 0 where
   pub shape : Square square
-  pub is : (u v : ℕ) → u < 16 → v < 16 → at square u v ≡ cond (startFlag n flags u && startFlag n flags v) 255 0
+  pub start : (u v : ℕ) → u < 16 → v < 16 → BothStart n starts u v → at square u v ≡ endless
+  pub other : (u v : ℕ) → u < 16 → v < 16 → (BothStart n starts u v → ⊥) → at square u v ≡ 0
 
 -- the first edge of each pair whose first state is below n
 pub record FirstEdges (last : List ℕ) (n : ℕ) (xs ys : List ℕ) : Type 0 where
@@ -132,16 +136,16 @@ pub record FirstEdges (last : List ℕ) (n : ℕ) (xs ys : List ℕ) : Type 0 wh
 -- each endless pair has an edge to an endless pair
 pub record EndlessEdges (c : Coder) (d : Direction) (square : List (List ℕ)) (xs ys : List ℕ) : Type 0 where
   pub kept : Kept xs ys
-  pub first : (u v : ℕ) → u < 16 → v < 16 → at square u v ≡ 255 → 0 < edgeAt xs ys u v .x
-  pub second : (u v : ℕ) → u < 16 → v < 16 → at square u v ≡ 255 → 0 < edgeAt xs ys u v .y
-  pub high : (u v : ℕ) → u < 16 → v < 16 → at square u v ≡ 255 → (edgeAt xs ys u v .x ≤ 256) × (edgeAt xs ys u v .y ≤ 256)
+  pub first : (u v : ℕ) → u < 16 → v < 16 → at square u v ≡ endless → 0 < edgeAt xs ys u v .x
+  pub second : (u v : ℕ) → u < 16 → v < 16 → at square u v ≡ endless → 0 < edgeAt xs ys u v .y
+  pub high : (u v : ℕ) → u < 16 → v < 16 → at square u v ≡ endless → (edgeAt xs ys u v .x ≤ 256) × (edgeAt xs ys u v .y ≤ 256)
   pub edge :
-      (u v p q : ℕ) → u < 16 → v < 16 → at square u v ≡ 255 → edgeAt xs ys u v .x ≡ suc p → edgeAt xs ys u v .y ≡ suc q →
-      Joins c d u v p q × (at square (far d c p) (far d c q) ≡ 255)
+      (u v p q : ℕ) → u < 16 → v < 16 → at square u v ≡ endless → edgeAt xs ys u v .x ≡ suc p → edgeAt xs ys u v .y ≡ suc q →
+      Joins c d u v p q × (at square (far d c p) (far d c q) ≡ endless)
 
 -- the depths of a direction, with the edges that keep the endless pairs standing
-pub record DepthsFound (c : Coder) (d : Direction) (flags : List ℕ) (square : List (List ℕ)) (xs ys : List ℕ) : Type 0 where
-  pub depths : Depths (flagged (machineOfCoder c) flags) d square
+pub record DepthsFound (c : Coder) (d : Direction) (starts : ℕ) (square : List (List ℕ)) (xs ys : List ℕ) : Type 0 where
+  pub depths : Depths (machineOfCoder c) (StartIn (c .states) starts) d square
   pub edges : EndlessEdges c d square xs ys
 
 pub record AlongAsked (c : Coder) (near′ far′ xs ys : List ℕ) : Type 0 where

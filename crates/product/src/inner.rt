@@ -7,15 +7,20 @@ ghost use Prim.Native.Nat.{ℕ, _+_, _<_, _≤_};
 ghost use lib.ListN.{getD};
 ghost use lib.Dec.{ltb, eqb};
 ghost use Rattle.mealy.specs.Product.{Direction, back as backward, forward as onward};
+ghost use Rattle.coder.specs.Refusal.{Judges};
 ghost use Rattle.coder.specs.Table.{Sound};
 ghost use Rattle.coder.specs.declared.inner.tables.Coder.{Coder as CoderOf};
 ghost use Rattle.product.specs.Depth.{at};
 ghost use Rattle.product.specs.Entries.{sources, nearEnds, farEnds, ArraysOf};
-ghost use Rattle.product.specs.Rounds.{Above, Seeking, Sought, SeekAsked, RoundAsked, Before, Rounded, startFlag, Started, Kept, FirstEdges, AlongAsked, DepthsFound};
-ghost use mathlib.Core.List.{List};
+ghost use Rattle.product.specs.Rounds.{Above, Seeking, Sought, SeekAsked, RoundAsked, Before, Rounded, StartIn, BothStart};
+ghost use Rattle.product.specs.Rounds.{Started, Kept, FirstEdges, AlongAsked, DepthsFound};
 use chains::inner::wide;
 use coder::inner::bytes::number;
 use coder::inner::tables::Coder;
+use setting::inner::has;
+
+// The depth of an endless pair: one that stands at every level.
+pub const ENDLESS: u8 = 255;
 
 // The numbers of two entries, counted from 1: an edge of the product machine where both are above 0.
 pub struct Edge {
@@ -102,7 +107,7 @@ fn round<'a>(
     k: u8,
 ) -> bool
     requires { ⌜ RoundAsked (now last) (now previous) (now output) (now far) states k (now d) (now xs) (now ys) ⌝ }
-    ensures { λ r. ⌜ ((c : CoderOf) (way : Direction) (flags : List ℕ) → ArraysOf c way (now (last .entry)) (now (previous .entry)) (now (output .entry)) (now (far .entry)) → states ≡ c .states → Before c way flags k (now (d .entry)) (now (xs .entry)) (now (ys .entry)) → Rounded c way flags k (now (d .exit)) (now (xs .exit)) (now (ys .exit)) r) ⌝ }
+    ensures { λ r. ⌜ ((c : CoderOf) (way : Direction) (starts : ℕ) → ArraysOf c way (now (last .entry)) (now (previous .entry)) (now (output .entry)) (now (far .entry)) → states ≡ c .states → Before c way starts k (now (d .entry)) (now (xs .entry)) (now (ys .entry)) → Rounded c way starts k (now (d .exit)) (now (xs .exit)) (now (ys .exit)) r) ⌝ }
 {
     let end = 16 * states;
     let mut changed = false;
@@ -112,7 +117,7 @@ fn round<'a>(
         let u = a / 16;
         let v = a % 16;
         a += 1;
-        if d[u][v] == 255 {
+        if d[u][v] == ENDLESS {
             let from = Edge {
                 x: wide(xs[place]),
                 y: wide(ys[place]),
@@ -132,30 +137,31 @@ fn round<'a>(
 }
 
 // Whether s is a start state.
-fn starts(states: usize, flags: &[u8; 16], s: usize) -> bool
+fn is_start(states: usize, starts: u16, s: usize) -> bool
     requires { ⌜ s < 16 ⌝ }
-    ensures { λ r. ⌜ r ≡ startFlag states (now (flags .entry)) s ⌝ }
+    ensures { λ r. ⌜ Judges (StartIn states starts s) r ⌝ }
 {
     if s < states {
-        return flags[s] == 1;
+        return has(starts, s);
     }
     false
 }
 
-fn both_start(states: usize, flags: &[u8; 16], u: usize, v: usize) -> bool
+// Whether both states of a pair are start states.
+fn both_start(states: usize, starts: u16, u: usize, v: usize) -> bool
     requires { ⌜ (u < 16) × (v < 16) ⌝ }
-    ensures { λ r. ⌜ r ≡ (startFlag states (now (flags .entry)) u && startFlag states (now (flags .entry)) v) ⌝ }
+    ensures { λ r. ⌜ Judges (BothStart states starts u v) r ⌝ }
 {
-    if starts(states, flags, u) {
-        return starts(states, flags, v);
+    if is_start(states, starts, u) {
+        return is_start(states, starts, v);
     }
     false
 }
 
 // The depths before the first round.
-fn start_square(states: usize, flags: &[u8; 16]) -> [[u8; 16]; 16]
+fn start_square(states: usize, starts: u16) -> [[u8; 16]; 16]
     requires { ⌜ states ≤ 16 ⌝ }
-    ensures { λ r. ⌜ Started states (now (flags .entry)) r ⌝ }
+    ensures { λ r. ⌜ Started states starts r ⌝ }
 {
     let end = 16 * states;
     let mut d = [[0u8; 16]; 16];
@@ -164,8 +170,8 @@ fn start_square(states: usize, flags: &[u8; 16]) -> [[u8; 16]; 16]
         let u = a / 16;
         let v = a % 16;
         a += 1;
-        if both_start(states, flags, u, v) {
-            d[u][v] = 255;
+        if both_start(states, starts, u, v) {
+            d[u][v] = ENDLESS;
         }
     }
     d
@@ -191,18 +197,18 @@ fn along<'a>(
     c: Coder,
     near: &'a [u8; 256],
     far: &'a [u8; 256],
-    flags: &'a [u8; 16],
+    starts: u16,
     xs: &mut [u16; 256],
     ys: &mut [u16; 256],
 ) -> [[u8; 16]; 16]
     requires { ⌜ AlongAsked c (now near) (now far) (now xs) (now ys) ⌝ }
-    ensures { λ r. ⌜ ((d : Direction) → now (near .entry) ≡ nearEnds d c → now (far .entry) ≡ farEnds d c → DepthsFound c d (now (flags .entry)) r (now (xs .exit)) (now (ys .exit))) ⌝ }
+    ensures { λ r. ⌜ ((d : Direction) → now (near .entry) ≡ nearEnds d c → now (far .entry) ≡ farEnds d c → DepthsFound c d starts r (now (xs .exit)) (now (ys .exit))) ⌝ }
 {
     let states = c.states;
     let inputs = c.inputs;
     let chain = chains::inner::by_key(near, states, inputs);
     first_edges(&chain.last, states, xs, ys);
-    let mut d = start_square(states, flags);
+    let mut d = start_square(states, starts);
     let mut k: u8 = 0;
     loop {
         if round(
@@ -224,24 +230,19 @@ fn along<'a>(
 }
 
 // The depths back.
-pub fn back(c: Coder, flags: &[u8; 16], xs: &mut [u16; 256], ys: &mut [u16; 256]) -> [[u8; 16]; 16]
+pub fn back(c: Coder, starts: u16, xs: &mut [u16; 256], ys: &mut [u16; 256]) -> [[u8; 16]; 16]
     requires { ⌜ Sound c × Kept (now xs) (now ys) ⌝ }
-    ensures { λ r. ⌜ DepthsFound c backward (now (flags .entry)) r (now (xs .exit)) (now (ys .exit)) ⌝ }
+    ensures { λ r. ⌜ DepthsFound c backward starts r (now (xs .exit)) (now (ys .exit)) ⌝ }
 {
     let states = source();
-    along(c, &c.next, &states, flags, xs, ys)
+    along(c, &c.next, &states, starts, xs, ys)
 }
 
 // The depths forward.
-pub fn forward(
-    c: Coder,
-    flags: &[u8; 16],
-    xs: &mut [u16; 256],
-    ys: &mut [u16; 256],
-) -> [[u8; 16]; 16]
+pub fn forward(c: Coder, starts: u16, xs: &mut [u16; 256], ys: &mut [u16; 256]) -> [[u8; 16]; 16]
     requires { ⌜ Sound c × Kept (now xs) (now ys) ⌝ }
-    ensures { λ r. ⌜ DepthsFound c onward (now (flags .entry)) r (now (xs .exit)) (now (ys .exit)) ⌝ }
+    ensures { λ r. ⌜ DepthsFound c onward starts r (now (xs .exit)) (now (ys .exit)) ⌝ }
 {
     let states = source();
-    along(c, &states, &c.next, flags, xs, ys)
+    along(c, &states, &c.next, starts, xs, ys)
 }

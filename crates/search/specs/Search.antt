@@ -12,6 +12,7 @@ use Rattle.mealy.specs.Product.{pairs}
 use Rattle.mealy.specs.LoopedPair.{letters, Valid, Short, TurnedRuns}
 use Rattle.coder.specs.Refusal.{refuse, first, upon}
 use Rattle.coder.specs.File.{fileRefusal, settingOf}
+pub use Rattle.loops.specs.Pair.{wanted}
 use Rattle.values.specs.Pair.{pairOf}
 use Rattle.values.specs.declared.Window.{Window}
 use Rattle.values.specs.declared.LoopedPair.{LoopedPair}
@@ -23,10 +24,6 @@ use Rattle.search.specs.declared.SearchResult.the-variants.{Refused, Fou
 -- The call's refusal, in checking order: 1 to 6, then 11 (some lent buffer is too short).
 unfoldable pub searchRefusal : List ℕ → Bool → ℕ
 searchRefusal f fits = first (fileRefusal f) (refuse (not fits) 11 0)
-
--- the bytes that the search wants for any verdict: two for each of 256 + 1 + 256 letters
-abbrev pub wanted : ℕ
-wanted = 1026
 
 -- The order in which the reported window is the least.
 abbrev pub order : Relation

@@ -1,8 +1,10 @@
-// No public calls: the search's refusal, and the search on a checked coder with its start states.
+// No public calls: the search's refusal, the search on a checked coder with its start states and conflicts, and on a checked file.
 ghost use mathlib.Core.Path.{_≡_};
 ghost use Prim.Native.Nat.{_≤_};
+ghost use lib.Dec.{leb};
 ghost use lib.ListN.{length};
-ghost use Rattle.mealy.specs.Setting.{Closed, flagged};
+ghost use Rattle.mealy.specs.Setting.{Closed, worded};
+ghost use Rattle.coder.specs.File.{settingOf};
 ghost use Rattle.coder.specs.Table.{machineOfCoder, Sound};
 ghost use Rattle.search.specs.Search.{searchRefusal, wanted, order, Says};
 use crate::Verdict;
@@ -22,10 +24,10 @@ pub fn refusal(file: &[u8], fits: bool) -> usize
     if fits { 0 } else { 11 }
 }
 
-// The verdict on a coder whose runs start in the states with flag 1.
-pub fn verdict(c: Coder, flags: &[u8; 16], letters: &mut [u8]) -> Verdict
-    requires { ⌜ Sound c × Closed (flagged (machineOfCoder c) (now flags)) × (wanted ≤ length (now letters)) ⌝ }
-    ensures { λ r. ⌜ Says order (flagged (machineOfCoder c) (now (flags .entry))) r (now (letters .entry)) (now (letters .exit)) ⌝ }
+// The verdict on a coder whose runs start in the states of the word, word i of `conflicts` holding the letters that conflict with i.
+pub fn verdict(c: Coder, starts: u16, conflicts: &[u16; 16], letters: &mut [u8]) -> Verdict
+    requires { ⌜ Sound c × Closed (worded (machineOfCoder c) starts (now conflicts)) × (wanted ≤ length (now letters)) ⌝ }
+    ensures { λ r. ⌜ Says order (worded (machineOfCoder c) starts (now (conflicts .entry))) r (now (letters .entry)) (now (letters .exit)) ⌝ }
 {
     let states = c.states;
     let inputs = c.inputs;
@@ -33,14 +35,15 @@ pub fn verdict(c: Coder, flags: &[u8; 16], letters: &mut [u8]) -> Verdict
     let mut by = [0u16; 256];
     let mut fx = [0u16; 256];
     let mut fy = [0u16; 256];
-    let backs = product::inner::back(c, flags, &mut bx, &mut by);
-    let forwards = product::inner::forward(c, flags, &mut fx, &mut fy);
+    let backs = product::inner::back(c, starts, &mut bx, &mut by);
+    let forwards = product::inner::forward(c, starts, &mut fx, &mut fy);
     let chain = chains::inner::by_key(&c.output, states, inputs);
     let mut worst = [0u8; 256];
-    let e = least::inner::conflicts(
+    let e = least::inner::count_edges(
         c,
         &chain.last,
         &chain.previous,
+        conflicts,
         &backs,
         &forwards,
         &mut worst,
@@ -51,4 +54,15 @@ pub fn verdict(c: Coder, flags: &[u8; 16], letters: &mut [u8]) -> Verdict
         return Verdict::Least(least::inner::choose(&need));
     }
     Verdict::NoDecoder(loops::inner::find(c, &bx, &by, &fx, &fy, e, letters))
+}
+
+// The verdict on a file that is not refused.
+pub fn checked(file: &[u8], letters: &mut [u8]) -> Verdict
+    requires { ⌜ searchRefusal (now file) (leb wanted (length (now letters))) ≡ 0 ⌝ }
+    ensures { λ r. ⌜ Says order (settingOf (now (file .entry))) r (now (letters .entry)) (now (letters .exit)) ⌝ }
+{
+    let c = Coder::from_checked(file);
+    let starts = setting::inner::start_states(c);
+    let conflicts = setting::inner::different_letters();
+    verdict(c, starts, &conflicts, letters)
 }

@@ -24,7 +24,5 @@ pub fn search(file: &[u8], letters: &mut [u8]) -> SearchResult
     if k != 0 {
         return SearchResult::Refused(k);
     }
-    let c = coder::inner::tables::Coder::from_checked(file);
-    let flags = [1u8; 16];
-    SearchResult::Found(inner::verdict(c, &flags, letters))
+    SearchResult::Found(inner::checked(file, letters))
 }

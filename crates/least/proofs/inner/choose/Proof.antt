@@ -1,5 +1,7 @@
 -- `choose` meets its contract. The window so far is the first of the candidates with lookahead a and above.
 use Prim.Native.Nat.{_≤_}
+use mathlib.Core.Path.{refl}
+use Rattle.coder.specs.Limits.{maxSide}
 use Rattle.least.proofs.Choosing.{FirstFrom, first-start, first-stays, first-changes}
 use borrow.Author.Needs.{needs}
 use native.Mathlib.Omega.{arith}
@@ -7,7 +9,7 @@ use Rattle.least.proofs.inner.choose.Statement.{statement}
 use Rattle.least.proofs.inner.choose.Tie as tie
 
 abbrev Inv-loop : tie.InvT-loop
-Inv-loop need before₀ after₀ a₀ before after a = (a ≤ 136) × FirstFrom need a before after
+Inv-loop need before₀ after₀ a₀ before after a = (a ≤ maxSide) × FirstFrom need a before after
 
 abbrev μ-loop : tie.MeasureT-loop
 μ-loop need before₀ after₀ a₀ before after a = a
@@ -24,8 +26,8 @@ loop-holds c = (search needs, first-start _ _ (c .number .ensures .0) (c .before
 sub-a : tie.Need-sub-a Inv-loop μ-loop
 sub-a c = search needs
 
-element-copy-out-number-2 : tie.Need-element-copy-out-number-2 Inv-loop μ-loop
-element-copy-out-number-2 c = search needs
+element-copy-out-x : tie.Need-element-copy-out-x Inv-loop μ-loop
+element-copy-out-x c = search needs
 
 number-requires-2 : tie.Need-number-requires-2 Inv-loop μ-loop
 number-requires-2 c κs = search needs
@@ -40,22 +42,31 @@ loop-less : tie.Need-loop-less Inv-loop μ-loop
 loop-less c = search needs
 
 loop-again : tie.Need-loop-again Inv-loop μ-loop
-loop-again c = (search needs, first-changes (c .before .before .before .before .before .loop .inv .1) (omega arith) (c .before .before .number2 .ensures .0) (omega arith) (omega arith))
+loop-again c = (
+  search needs,
+  first-changes (c .before .before .before .before .before .loop .inv .1) (omega arith) (c .before .number2 .ensures .0) (omega arith)
+      (omega arith),
+)
 
 loop-less-2 : tie.Need-loop-less-2 Inv-loop μ-loop
 loop-less-2 c = search needs
 
 loop-again-2 : tie.Need-loop-again-2 Inv-loop μ-loop
-loop-again-2 c = (search needs, first-stays (c .before .before .before .before .before .loop .inv .1) (omega arith) (c .before .before .number2 .ensures .0) (λ l. omega arith))
+loop-again-2 c = (
+  search needs,
+  first-stays (c .before .before .before .before .before .loop .inv .1) (omega arith) (c .before .number2 .ensures .0) (λ l. omega arith),
+)
 
 loop-less-3 : tie.Need-loop-less-3 Inv-loop μ-loop
 loop-less-3 c = search needs
 
 loop-again-3 : tie.Need-loop-again-3 Inv-loop μ-loop
-loop-again-3 c = (search needs, first-stays (c .before .before .before .before .loop .inv .1) (omega arith) (c .before .number2 .ensures .0) (λ l. absurd (omega arith)))
+loop-again-3 c = (search needs, first-stays (c .before .before .before .loop .inv .1) (omega arith) refl (λ l. absurd (omega arith)))
 
 returns : tie.Need-returns Inv-loop μ-loop
-returns c = let f = c .before .loop .inv .1 in record { lookahead = f .lookahead; finite = rw (f .is) at (f .finite); is = f .is; first = λ a l m. f .first a (omega arith) l m }
+returns c =
+    let f = c .before .loop .inv .1 in
+    record { lookahead = f .lookahead; finite = rw (f .is) at (f .finite); is = f .is; first = λ a l m. f .first a (omega arith) l m }
 
 pub choose-spec : {M : Type 1} → statement M
 choose-spec =
@@ -67,7 +78,7 @@ choose-spec =
     number-requires
     loop-holds
     sub-a
-    element-copy-out-number-2
+    element-copy-out-x
     number-requires-2
     add-if2
     add-if2-2

@@ -1,6 +1,7 @@
 -- `needs` meets its contract. From f on every place has the most that the table has past it.
 use Prim.Native.Nat.{_≤_}
 use mathlib.Core.Path.{refl}
+use Rattle.product.specs.Depth.{endless}
 use Rattle.least.proofs.Choosing.{NeedsFrom, needs-start, needs-more}
 use borrow.Author.Needs.{needs}
 use native.Mathlib.Omega.{arith}
@@ -8,13 +9,16 @@ use Rattle.least.proofs.inner.needs.Statement.{statement}
 use Rattle.least.proofs.inner.needs.Tie as tie
 
 abbrev Inv-loop : tie.InvT-loop
-Inv-loop worst need₀ most₀ f₀ need most f = (f ≤ 255) × NeedsFrom worst f need most
+Inv-loop worst need₀ most₀ f₀ need most f = (f ≤ endless) × NeedsFrom worst f need most
 
 abbrev μ-loop : tie.MeasureT-loop
 μ-loop worst need₀ most₀ f₀ need most f = f
 
+number-requires : tie.Need-number-requires Inv-loop μ-loop
+number-requires c κs = search needs
+
 loop-holds : tie.Need-loop-holds Inv-loop μ-loop
-loop-holds c = (search needs, needs-start _ _ refl)
+loop-holds c = (search needs, rw (c .number .ensures .0) (needs-start _ _ refl))
 
 element-copy-out-larger : tie.Need-element-copy-out-larger Inv-loop μ-loop
 element-copy-out-larger c = search needs
@@ -43,6 +47,7 @@ needs-spec =
     (tie.spec
     Inv-loop
     μ-loop
+    number-requires
     loop-holds
     element-copy-out-larger
     larger-requires

@@ -1,6 +1,8 @@
 -- `row` meets its contract. The entries of the chain above the one numbered y are counted.
+use denote.Ref.{now}
 use mathlib.Core.Path.{_≡_}
-use mathlib.Core.Logic.{_≢_}
+use lib.ListN.{getD}
+use Rattle.mealy.specs.Word.{Has}
 use Prim.Native.Nat.{_≤_, _<_, _-_, _%_}
 use Rattle.coder.specs.declared.inner.tables.Coder.{Coder}
 use Rattle.least.specs.Need.{RowOf}
@@ -11,17 +13,23 @@ use Rattle.least.proofs.inner.row.Statement.{statement}
 use Rattle.least.proofs.inner.row.Tie as tie
 
 abbrev Inv-loop : tie.InvT-loop
-Inv-loop previous next backs forwards p from worst₀ y₀ worst y =
+Inv-loop previous next conflicts backs forwards p from worst₀ set y₀ worst y =
     (y ≤ 256) ×
-    ((c : Coder) → (r : RowOf c previous next p from) → RowAt c backs forwards previous next p from r worst₀ y worst)
+    ((c : Coder) → (r : RowOf c previous next p from) → RowAt c conflicts backs forwards previous next p from r worst₀ y worst)
 
 abbrev μ-loop : tie.MeasureT-loop
-μ-loop previous next backs forwards p from worst₀ y₀ worst y = y
+μ-loop previous next conflicts backs forwards p from worst₀ set y₀ worst y = y
+
+mul-set : tie.Need-mul-set Inv-loop μ-loop
+mul-set c = search needs
+
+element-copy-out-set : tie.Need-element-copy-out-set Inv-loop μ-loop
+element-copy-out-set c = search needs
 
 loop-holds : tie.Need-loop-holds Inv-loop μ-loop
 loop-holds c = (
-  row-high _ (c .args .backs .now) (c .args .forwards .now) _ _ _ _ (c .pre .of),
-  λ k r. row-start _ _ _ _ _ _ _ r (c .pre .size),
+  row-high _ (c .before .args .conflicts .now) (c .before .args .backs .now) (c .before .args .forwards .now) _ _ _ _ (c .before .pre .of),
+  λ k r. row-start _ _ _ _ _ _ _ _ r (c .before .pre .size),
 )
 
 sub-q : tie.Need-sub-q Inv-loop μ-loop
@@ -36,32 +44,34 @@ element-copy-out-wide c = search needs
 wide-requires : tie.Need-wide-requires Inv-loop μ-loop
 wide-requires c κs = search needs
 
-conflict-requires : tie.Need-conflict-requires Inv-loop μ-loop
-conflict-requires c κs = search needs
+has-requires : tie.Need-has-requires Inv-loop μ-loop
+has-requires c κs = search needs
 
 -- the turn of the loop and the start of the call, seen from where the entry before is known
 abbrev turn : tie.After-wide Inv-loop μ-loop → tie.At-loop Inv-loop μ-loop
 turn w = w .before .before .before
 
 abbrev start : tie.After-wide Inv-loop μ-loop → tie.Start Inv-loop μ-loop
-start w = turn w .before
+start w = turn w .before .before
 
 less : (w : tie.After-wide Inv-loop μ-loop) → w .wide .result < turn w .loop .y
-less w = row-less _ _ _ _ _ _ _ _ (turn w .loop .inv .1 _ (start w .pre .of)) (omega arith) (w .wide .ensures)
+less w = row-less _ _ _ _ _ _ _ _ _ (turn w .loop .inv .1 _ (start w .pre .of)) (omega arith) (w .wide .ensures)
 
 -- the two entries of a pair that is counted conflict
-differ : (c : tie.Then1 Inv-loop μ-loop) → start (c .before .before) .args .p % 16 ≢ (turn (c .before .before) .loop .y - 1) % 16
-differ c = c .before .conflict .ensures .yes′ (c .if1 .taken)
+conflict : (c : tie.Then1 Inv-loop μ-loop) →
+    Has (getD (now (start (c .before .before) .args .conflicts)) (start (c .before .before) .args .p % 16) 0)
+    ((turn (c .before .before) .loop .y - 1) % 16)
+conflict c = c .before .has .ensures .yes′ (c .if1 .taken)
 
 count-requires : tie.Need-count-requires Inv-loop μ-loop
 count-requires c κs =
     let w = c .before .before .before in
-    row-asked _ _ _ _ _ _ _ _ (turn w .loop .inv .1 _ (start w .pre .of)) (omega arith)
+    row-asked _ _ _ _ _ _ _ _ _ (turn w .loop .inv .1 _ (start w .pre .of)) (omega arith)
 
 returns : tie.Need-returns Inv-loop μ-loop
 returns c = λ k r.
     let t = c .before .before .before in
-    row-found _ _ _ _ _ _ _ r (turn (t .before .before) .loop .inv .1 k r) (omega arith) (differ t) (c .before .count .ensures)
+    row-found _ _ _ _ _ _ _ _ r (turn (t .before .before) .loop .inv .1 k r) (omega arith) (conflict t) (c .before .count .ensures)
     (c .if2 .taken)
 
 loop-less : tie.Need-loop-less Inv-loop μ-loop
@@ -73,7 +83,7 @@ loop-again c =
     let w = t .before .before in (
       omega (arith, less w),
       λ k r.
-          row-counted _ _ _ _ _ _ _ r (turn w .loop .inv .1 k r) (omega arith) (differ t) (c .before .count .ensures) (c .if2 .left)
+          row-counted _ _ _ _ _ _ _ _ r (turn w .loop .inv .1 k r) (omega arith) (conflict t) (c .before .count .ensures) (c .if2 .left)
           (w .wide .ensures),
     )
 
@@ -85,14 +95,14 @@ loop-again-2 c =
     let w = c .before .before in (
       omega (arith, less w),
       λ k r.
-          row-apart _ _ _ _ _ _ _ r (turn w .loop .inv .1 k r) (omega arith) (w .wide .ensures)
-          (c .before .conflict .ensures .no′ (c .if1 .left)),
+          row-apart _ _ _ _ _ _ _ _ r (turn w .loop .inv .1 k r) (omega arith) (w .wide .ensures)
+          (c .before .has .ensures .no′ (c .if1 .left)),
     )
 
 returns-2 : tie.Need-returns-2 Inv-loop μ-loop
 returns-2 c = λ k r.
     let e : c .before .loop .y ≡ 0 = omega arith in
-    row-end _ _ _ _ _ _ _ r (rw e at (c .before .loop .inv .1 k r))
+    row-end _ _ _ _ _ _ _ _ r (rw e at (c .before .loop .inv .1 k r))
 
 pub row-spec : {M : Type 1} → statement M
 row-spec =
@@ -100,12 +110,14 @@ row-spec =
     (tie.spec
     Inv-loop
     μ-loop
+    mul-set
+    element-copy-out-set
     loop-holds
     sub-q
     mul-wide
     element-copy-out-wide
     wide-requires
-    conflict-requires
+    has-requires
     count-requires
     returns
     loop-less

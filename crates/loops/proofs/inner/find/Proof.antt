@@ -5,6 +5,7 @@ use Prim.Native.Nat.{ℕ, _+_, _*_, _-_, _/_, _≤_, _<_}
 use lib.ListN.{length, getD, length-set}
 use Rattle.product.specs.Entries.{sources}
 use Rattle.loops.specs.Walk.{Repeats, Wrote}
+use Rattle.loops.specs.Pair.{wanted}
 use mathlib.Core.Bool.{false}
 use Rattle.loops.proofs.Finding.{entries-inside, back-high, forward-high, back-follows, forward-follows, found-pair}
 use native.Mathlib.Omega.{arith}
@@ -14,7 +15,7 @@ use Rattle.loops.proofs.inner.find.Tie as tie
 
 -- the places of the entries
 entries : (c : tie.Start) → (1 ≤ c .args .e .x) × (1 ≤ c .args .e .y) × (c .args .e .x - 1 < 256) × (c .args .e .y - 1 < 256)
-entries c = entries-inside _ _ (c .pre .from)
+entries c = entries-inside _ _ _ (c .pre .from)
 
 -- the pairs at the two ends of the conflicting edge, where the walks begin
 abbrev near-pair : tie.Start → ℕ
@@ -48,10 +49,10 @@ returned :
 returned w = rw (sourced (before-back w) .source .ensures) at (w .walk .ensures)
 
 back-steps : (w : tie.After-walk) → w .walk .result .steps ≤ 256
-back-steps w = let n = before-back w in back-high _ _ (start n .pre .from) refl (ends n) (returned w)
+back-steps w = let n = before-back w in back-high _ _ _ (start n .pre .from) refl (ends n) (returned w)
 
 forward-steps : (v : tie.After-walk2) → v .walk2 .result .steps ≤ 256
-forward-steps v = let n = before-both v in forward-high _ _ (start n .pre .from) refl (ends n) (v .walk2 .ensures)
+forward-steps v = let n = before-both v in forward-high _ _ _ (start n .pre .from) refl (ends n) (v .walk2 .ensures)
 
 -- the letters of the walk back: both walks, seen from where these are written
 abbrev walks : tie.After-write → tie.After-walk2
@@ -70,7 +71,7 @@ written :
 written x = rw (sourced (begun x) .source .ensures) at (x .write .ensures)
 
 -- the lent buffer stays as long as it was
-wide-still : (x : tie.After-write) → 1026 ≤ length (x .write .last .1 .1 .1 .1 .1 .1 .1 .0)
+wide-still : (x : tie.After-write) → wanted ≤ length (x .write .last .1 .1 .1 .1 .1 .1 .1 .0)
 wide-still x = omega (arith, written x .size, start (begun x) .pre .room)
 
 source-requires : tie.Need-source-requires
@@ -109,10 +110,10 @@ add-end c = search needs
 walk-requires : tie.Need-walk-requires
 walk-requires c κs =
     let n = c .before in
-    rw (sourced n .source .ensures) (back-follows _ _ (start n .pre .from) refl (ends n))
+    rw (sourced n .source .ensures) (back-follows _ _ _ (start n .pre .from) refl (ends n))
 
 walk-requires-2 : tie.Need-walk-requires-2
-walk-requires-2 c κs = let n = before-back (c .before .before) in forward-follows _ _ (start n .pre .from) refl (ends n)
+walk-requires-2 c κs = let n = before-back (c .before .before) in forward-follows _ _ _ (start n .pre .from) refl (ends n)
 
 write-requires : tie.Need-write-requires
 write-requires c κs =
@@ -120,7 +121,7 @@ write-requires c κs =
     let n = before-both v in
     let high = back-steps (v .before .before .before) in
     rw (sourced n .source .ensures) (
-      record { follow = back-follows _ _ (start n .pre .from) refl (ends n); room = omega (arith, high, start n .pre .room) },
+      record { follow = back-follows _ _ _ (start n .pre .from) refl (ends n); room = omega (arith, high, start n .pre .room) },
       omega (arith, high),
     )
 
@@ -155,7 +156,7 @@ write-requires-2 c κs =
     let high₁ = back-steps (walk-back x) in
     let high₂ = forward-steps (walks x) in (
       record {
-        follow = forward-follows _ _ (start n .pre .from) refl (ends n);
+        follow = forward-follows _ _ _ (start n .pre .from) refl (ends n);
         room = simp length-set (omega (arith, high₁, high₂, wide-still x));
       },
       omega (arith, high₁, high₂),
@@ -175,9 +176,9 @@ same-length : tie.Need-same-length
 same-length c = c .before .before .before .before .write2 .ensures .size ∙ simp length-set (written (first-write c) .size)
 
 returns : tie.Need-returns
-returns c = λ flags z.
+returns c = λ starts conflicts z.
     let x = first-write c in
-    found-pair _ flags z refl (ends (begun x)) (returned (walk-back x)) (walks x .walk2 .ensures) (written x)
+    found-pair _ starts conflicts z refl (ends (begun x)) (returned (walk-back x)) (walks x .walk2 .ensures) (written x)
     (c .before .before .before .before .write2 .ensures) (start (begun x) .pre .room)
 
 pub find-spec : {M : Type 1} → statement M

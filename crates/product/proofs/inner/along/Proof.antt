@@ -12,11 +12,11 @@ use Rattle.product.proofs.inner.along.Statement.{statement}
 use Rattle.product.proofs.inner.along.Tie as tie
 
 abbrev Inv-loop : tie.InvT-loop
-Inv-loop near far flags xs₀ ys₀ c states inputs chain d₀ k₀ xs ys d k =
-    (k ≤ pairs (c .states)) × ((w : Direction) → near ≡ nearEnds w c → far ≡ farEnds w c → Before c w flags k d xs ys)
+Inv-loop near far starts xs₀ ys₀ c states inputs chain d₀ k₀ xs ys d k =
+    (k ≤ pairs (c .states)) × ((w : Direction) → near ≡ nearEnds w c → far ≡ farEnds w c → Before c w starts k d xs ys)
 
 abbrev μ-loop : tie.MeasureT-loop
-μ-loop near far flags xs₀ ys₀ c states inputs chain d₀ k₀ xs ys d k = 137 - k
+μ-loop near far starts xs₀ ys₀ c states inputs chain d₀ k₀ xs ys d k = 137 - k
 
 by-key-requires : tie.Need-by-key-requires Inv-loop μ-loop
 by-key-requires c κs = rw (c .pre .near-is) (near-keys _ (c .pre .sound) (c .pre .d))
@@ -51,7 +51,7 @@ round-requires c κs =
     record {
       c = _;
       d = p .d;
-      flags = start l .args .flags .now;
+      starts = start l .args .starts;
       arrays = arrays-of _ (p .d) (p .sound) _ _ _ (p .near-is) (p .far-is) (chained l .by-key .ensures);
       states-is = refl;
       before = l .loop .inv .1 (p .d) (p .near-is) (p .far-is);
@@ -66,7 +66,7 @@ turn c = c .before .before .before .before .before .before .before .before .befo
 rounded :
     (c : tie.After-round Inv-loop μ-loop) (w : Direction) → now (start (turn c) .args .near) ≡ nearEnds w (start (turn c) .args .t1) →
     now (start (turn c) .args .far) ≡ farEnds w (start (turn c) .args .t1) →
-    Rounded (start (turn c) .args .t1) w (now (start (turn c) .args .flags)) (turn c .loop .k) (c .round .last .1 .1 .1 .1 .1 .0)
+    Rounded (start (turn c) .args .t1) w (start (turn c) .args .starts) (turn c .loop .k) (c .round .last .1 .1 .1 .1 .1 .0)
     (c .round .last .1 .1 .1 .1 .1 .1 .0) (c .round .last .1 .1 .1 .1 .1 .1 .1 .0) (c .round .result)
 rounded c w n f =
     let sound = start (turn c) .pre .sound in

@@ -1,10 +1,10 @@
 -- `round` meets its contract. The pairs at places below a have had their round, the others not.
-use Prim.Native.Nat.{ℕ, _≤_, _<_, _-_, _/_, _%_}
+use Prim.Native.Nat.{ℕ, suc, _≤_, _<_, _-_, _/_, _%_}
 use denote.Ref.{now}
 use mathlib.Core.Path.{_≡_}
-use mathlib.Core.List.{List}
 use Rattle.mealy.specs.Product.{Direction}
 use Rattle.coder.specs.declared.inner.tables.Coder.{Coder}
+use Rattle.product.specs.Depth.{endless}
 use Rattle.product.specs.Entries.{ArraysOf}
 use Rattle.product.specs.Rounds.{Above, Seeking, Before}
 use Rattle.product.proofs.Rounds.{InRound, round-start, round-fallen, seeking-here, round-stands, round-falls, round-end}
@@ -16,8 +16,8 @@ use Rattle.product.proofs.inner.round.Tie as tie
 abbrev Inv-loop : tie.InvT-loop
 Inv-loop last previous output far states d₀ xs₀ ys₀ k end changed₀ a₀ d xs ys changed a =
     (a ≤ end) ×
-    ((c : Coder) (way : Direction) (flags : List ℕ) → (arrays : ArraysOf c way last previous output far) → states ≡ c .states →
-    (low : k < 254) → Before c way flags k d₀ xs₀ ys₀ → InRound c way flags (arrays .sound) k low a d xs ys changed)
+    ((c : Coder) (way : Direction) (starts : ℕ) → (arrays : ArraysOf c way last previous output far) → states ≡ c .states →
+    (low : suc k < endless) → Before c way starts k d₀ xs₀ ys₀ → InRound c way starts (arrays .sound) k low a d xs ys changed)
 
 abbrev μ-loop : tie.MeasureT-loop
 μ-loop last previous output far states d₀ xs₀ ys₀ k end changed₀ a₀ d xs ys changed a = end - a
@@ -26,7 +26,7 @@ mul-end : tie.Need-mul-end Inv-loop μ-loop
 mul-end c = omega (arith, c .pre .states-is, c .pre .arrays .sound .states-high)
 
 loop-holds : tie.Need-loop-holds Inv-loop μ-loop
-loop-holds c = (omega arith, λ m way flags arrays e low b. round-start m way flags (arrays .sound) _ low b)
+loop-holds c = (omega arith, λ m way starts arrays e low b. round-start m way starts (arrays .sound) _ low b)
 
 -- the place of the pair that a turn sees to is one of the 256
 inside : (i : tie.In-loop Inv-loop μ-loop) → i .before .loop .a < 256
@@ -72,17 +72,17 @@ turn c = standing c .before .before
 abbrev start : tie.After-wide2 Inv-loop μ-loop → tie.Start Inv-loop μ-loop
 start c = turn c .before .before
 
-module _ (c : tie.After-wide2 Inv-loop μ-loop) (m : Coder) (way : Direction) (flags : List ℕ)
+module _ (c : tie.After-wide2 Inv-loop μ-loop) (m : Coder) (way : Direction) (starts : ℕ)
     (arrays : ArraysOf m way (now (start c .args .last)) (now (start c .args .previous)) (now (start c .args .output))
     (now (start c .args .far)))
-    (states-is : start c .args .states ≡ m .states) (low : start c .args .k < 254)
-    (before : Before m way flags (start c .args .k) (now (start c .args .d)) (now (start c .args .xs)) (now (start c .args .ys))) where
+    (states-is : start c .args .states ≡ m .states) (low : suc (start c .args .k) < endless)
+    (before : Before m way starts (start c .args .k) (now (start c .args .d)) (now (start c .args .xs)) (now (start c .args .ys))) where
   -- what is sought from the edge kept for the pair on
   seeking :
       Seeking m way (Above (turn c .before .loop .d) (start c .args .k)) (turn c .before .loop .a / 16) (turn c .before .loop .a % 16)
       (c .before .before .wide .result) (c .wide2 .result)
   seeking =
-      seeking-here _ _ _ _ _ low (turn c .before .loop .inv .1 m way flags arrays states-is low before) (inside (turn c))
+      seeking-here _ _ _ _ _ low (turn c .before .loop .inv .1 m way starts arrays states-is low before) (inside (turn c))
       (standing c .if1 .taken) (c .before .before .wide .ensures) (c .wide2 .ensures)
 
 seek-requires : tie.Need-seek-requires Inv-loop μ-loop
@@ -140,10 +140,10 @@ loop-less c = omega arith
 loop-again : tie.Need-loop-again Inv-loop μ-loop
 loop-again c = (
   omega arith,
-  λ m way flags arrays e low b.
+  λ m way starts arrays e low b.
       let w = c .before .before .before in
-      let found = c .before .seek .ensures m way _ arrays (seeking w m way flags arrays e low b) in
-      round-falls _ _ _ _ _ low (turn w .before .loop .inv .1 m way flags arrays e low b) (inside (turn w)) (standing w .if1 .taken) found
+      let found = c .before .seek .ensures m way _ arrays (seeking w m way starts arrays e low b) in
+      round-falls _ _ _ _ _ low (turn w .before .loop .inv .1 m way starts arrays e low b) (inside (turn w)) (standing w .if1 .taken) found
       (c .if2 .taken),
 )
 
@@ -153,10 +153,10 @@ loop-less-2 c = omega arith
 loop-again-2 : tie.Need-loop-again-2 Inv-loop μ-loop
 loop-again-2 c = (
   omega arith,
-  λ m way flags arrays e low b.
+  λ m way starts arrays e low b.
       let w = c .before .before .before in
-      let found = c .before .seek .ensures m way _ arrays (seeking w m way flags arrays e low b) in
-      round-stands _ _ _ _ _ low (turn w .before .loop .inv .1 m way flags arrays e low b) (inside (turn w)) (standing w .if1 .taken) found
+      let found = c .before .seek .ensures m way _ arrays (seeking w m way starts arrays e low b) in
+      round-stands _ _ _ _ _ low (turn w .before .loop .inv .1 m way starts arrays e low b) (inside (turn w)) (standing w .if1 .taken) found
       (omega (arith, c .if2 .left)),
 )
 
@@ -166,15 +166,15 @@ loop-less-3 c = omega arith
 loop-again-3 : tie.Need-loop-again-3 Inv-loop μ-loop
 loop-again-3 c = (
   omega arith,
-  λ m way flags arrays e low b.
+  λ m way starts arrays e low b.
       let i = c .before .before in
-      round-fallen _ _ _ _ _ low (i .before .loop .inv .1 m way flags arrays e low b) (inside i) (c .if1 .left),
+      round-fallen _ _ _ _ _ low (i .before .loop .inv .1 m way starts arrays e low b) (inside i) (c .if1 .left),
 )
 
 returns : tie.Need-returns Inv-loop μ-loop
-returns c = λ m way flags arrays e b.
+returns c = λ m way starts arrays e b.
     let low = c .before .before .pre .level in
-    round-end _ _ _ _ _ low (c .before .loop .inv .1 m way flags arrays e low b) (omega (arith, e))
+    round-end _ _ _ _ _ low (c .before .loop .inv .1 m way starts arrays e low b) (omega (arith, e))
 
 pub round-spec : {M : Type 1} → statement M
 round-spec =

@@ -1,22 +1,19 @@
 -- `start_square` meets its contract. The first a places are set, the others are 0.
-use mathlib.Core.Bool.{_&&_}
 use mathlib.Core.Path.{_≡_, refl}
 use Prim.Native.Nat.{_≤_, _-_, _*_}
-use borrow.Author.Tests.{le-ltb}
-use Rattle.product.specs.Rounds.{startFlag}
-use Rattle.product.proofs.Beginning.{FilledTo, filled-start, filled-put, filled-skip, filled-all}
-use Rattle.coder.proofs.Refusals.{via}
+use Rattle.product.specs.Rounds.{BothStart}
+use Rattle.product.proofs.Beginning.{FilledTo, filled-start, filled-put, filled-skip, filled-yes, filled-no}
 use borrow.Author.Needs.{needs}
 use native.Mathlib.Omega.{arith}
 use Rattle.product.proofs.inner.start_square.Statement.{statement}
 use Rattle.product.proofs.inner.start_square.Tie as tie
 
 abbrev Inv-loop : tie.InvT-loop
-Inv-loop states flags end d₀ a₀ d a =
-    (a ≤ end) × (end ≡ 16 * states) × FilledTo (λ u v. (startFlag states flags u && startFlag states flags v)) a d
+Inv-loop states starts end d₀ a₀ d a =
+    (a ≤ end) × (end ≡ 16 * states) × FilledTo (BothStart states starts) a d
 
 abbrev μ-loop : tie.MeasureT-loop
-μ-loop states flags end d₀ a₀ d a = end - a
+μ-loop states starts end d₀ a₀ d a = end - a
 
 mul-end : tie.Need-mul-end Inv-loop μ-loop
 mul-end c = search needs
@@ -43,18 +40,22 @@ loop-less : tie.Need-loop-less Inv-loop μ-loop
 loop-less c = search needs
 
 loop-again : tie.Need-loop-again Inv-loop μ-loop
-loop-again c = let i = c .before .before .before .loop .inv in (search needs, i .1, filled-put _ (i .2) (omega arith) (via (c .before .both-start .ensures) (c .if1 .taken)))
+loop-again c = let i = c .before .before .before .loop .inv in (search needs, i .1, filled-put _ (i .2) (omega arith) (c .before .both-start .ensures .yes′ (c .if1 .taken)))
 
 loop-less-2 : tie.Need-loop-less-2 Inv-loop μ-loop
 loop-less-2 c = search needs
 
 loop-again-2 : tie.Need-loop-again-2 Inv-loop μ-loop
-loop-again-2 c = let i = c .before .before .before .loop .inv in (search needs, i .1, filled-skip _ (i .2) (omega arith) (via (c .before .both-start .ensures) (c .if1 .left)))
+loop-again-2 c = let i = c .before .before .before .loop .inv in (search needs, i .1, filled-skip _ (i .2) (omega arith) (c .before .both-start .ensures .no′ (c .if1 .left)))
 
 returns : tie.Need-returns Inv-loop μ-loop
 returns c =
     let i = c .before .loop .inv in
-    record { shape = i .2 .shape; is = filled-all _ (i .2) (λ u v l m. rw (le-ltb u (c .before .before .args .states) (let e = i .1 in omega arith))) }
+    record {
+      shape = i .2 .shape;
+      start = filled-yes _ (i .2) (λ u v l m p. let e = i .1 in omega (arith, p .0 .0));
+      other = filled-no _ (i .2);
+    }
 
 pub start-square-spec : {M : Type 1} → statement M
 start-square-spec =

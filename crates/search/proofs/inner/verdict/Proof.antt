@@ -14,34 +14,34 @@ forward-requires c κs = search needs
 by-key-requires : tie.Need-by-key-requires
 by-key-requires c κs = let s = c .before .before .before .before .before .before .before .before .before in output-keys _ (s .pre .0)
 
-conflicts-requires : tie.Need-conflicts-requires
-conflicts-requires c κs = search needs
+count-edges-requires : tie.Need-count-edges-requires
+count-edges-requires c κs = search needs
 
 needs-requires : tie.Need-needs-requires
 needs-requires c κs = search needs
 
--- what was done before, seen from the end of `conflicts`: the two calls for the depths, and the start of the call
-abbrev forwarded : tie.After-conflicts → tie.After-forward
+-- what was done before, seen from the end of `count_edges`: the two calls for the depths, and the start of the call
+abbrev forwarded : tie.After-count-edges → tie.After-forward
 forwarded d = d .before .before .before .before .before .before .before .before .before .before
 
-abbrev backed : tie.After-conflicts → tie.After-back
+abbrev backed : tie.After-count-edges → tie.After-back
 backed d = forwarded d .before .before .before
 
-abbrev start : tie.After-conflicts → tie.Start
+abbrev start : tie.After-count-edges → tie.Start
 start d = backed d .before .before .before .before
 
 choose-requires : tie.Need-choose-requires
 choose-requires c κs =
     let d = c .before .before .before .before in
     let p = start d .pre in
-    choose-asked _ _ (p .0) (p .1) (backed d .back .ensures) (forwarded d .forward .ensures) (d .conflicts .ensures) (omega arith)
+    choose-asked _ _ _ (p .0) (p .1) (backed d .back .ensures) (forwarded d .forward .ensures) (d .count-edges .ensures) (omega arith)
     (c .before .needs .result) (c .before .needs .ensures)
 
 returns : tie.Need-returns
 returns c =
     let d = c .before .before .before .before .before in
     let p = start d .pre in
-    window-says _ _ (p .0) (p .1) (backed d .back .ensures) (forwarded d .forward .ensures) (d .conflicts .ensures) (omega arith)
+    window-says _ _ _ (p .0) (p .1) (backed d .back .ensures) (forwarded d .forward .ensures) (d .count-edges .ensures) (omega arith)
     (c .before .before .needs .result) (c .before .before .needs .ensures) _ _ (c .choose .ensures)
 
 find-requires : tie.Need-find-requires
@@ -49,8 +49,9 @@ find-requires c κs =
     let d = c .before .before .before .before .before .before in
     let p = start d .pre in
     record {
-      flags = start d .args .flags .now;
-      from = find-from _ _ (p .0) (p .1) (backed d .back .ensures) (forwarded d .forward .ensures) (d .conflicts .ensures) (omega arith);
+      starts = start d .args .starts;
+      conflicts = start d .args .conflicts .now;
+      from = find-from _ _ _ (p .0) (p .1) (backed d .back .ensures) (forwarded d .forward .ensures) (d .count-edges .ensures) (omega arith);
       room = p .2;
     }
 
@@ -63,9 +64,9 @@ returns-2 c =
     let p = start d .pre in
     let back = backed d .back .ensures in
     let forward = forwarded d .forward .ensures in
-    let found = d .conflicts .ensures in
-    let from = find-from _ _ (p .0) (p .1) back forward found (omega arith) in
-    pair-says _ _ (p .0) (p .1) back forward found _ _ _ (c .before .before .find .ensures _ from)
+    let found = d .count-edges .ensures in
+    let from = find-from _ _ _ (p .0) (p .1) back forward found (omega arith) in
+    pair-says _ _ _ (p .0) (p .1) back forward found _ _ _ (c .before .before .find .ensures _ _ from)
 
 pub verdict-spec : {M : Type 1} → statement M
 verdict-spec =
@@ -74,7 +75,7 @@ verdict-spec =
     back-requires
     forward-requires
     by-key-requires
-    conflicts-requires
+    count-edges-requires
     needs-requires
     choose-requires
     returns

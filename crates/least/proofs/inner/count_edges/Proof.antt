@@ -1,4 +1,4 @@
--- `conflicts` meets its contract. The edges of the entries below place p are counted.
+-- `count_edges` meets its contract. The edges of the entries below place p are counted.
 use native.Mathlib.Numerals.{add-one}
 use Rattle.coder.specs.Table.{Sound}
 use Prim.Native.Nat.{_≤_, _-_}
@@ -8,21 +8,21 @@ use Rattle.least.proofs.Counting.{RowsTo, rows-start, rows-skip, rows-m
 use Rattle.coder.proofs.Tables.{output-high}
 use borrow.Author.Needs.{needs}
 use native.Mathlib.Omega.{arith}
-use Rattle.least.proofs.inner.conflicts.Statement.{statement}
-use Rattle.least.proofs.inner.conflicts.Tie as tie
+use Rattle.least.proofs.inner.count_edges.Statement.{statement}
+use Rattle.least.proofs.inner.count_edges.Tie as tie
 
 abbrev Inv-loop : tie.InvT-loop
-Inv-loop last previous backs forwards worst₀ c inputs end p₀ worst p =
-    (p ≤ end) × ((s : Sound c) → RowsTo c backs forwards s worst₀ p worst)
+Inv-loop last previous conflicts backs forwards worst₀ c inputs end p₀ worst p =
+    (p ≤ end) × ((s : Sound c) → RowsTo c conflicts backs forwards s worst₀ p worst)
 
 abbrev μ-loop : tie.MeasureT-loop
-μ-loop last previous backs forwards worst₀ c inputs end p₀ worst p = end - p
+μ-loop last previous conflicts backs forwards worst₀ c inputs end p₀ worst p = end - p
 
 mul-end : tie.Need-mul-end Inv-loop μ-loop
 mul-end c = omega (arith, c .pre .sound .states-high)
 
 loop-holds : tie.Need-loop-holds Inv-loop μ-loop
-loop-holds c = (omega arith, λ s. rows-start _ _ _ s (c .pre .size))
+loop-holds c = (omega arith, λ s. rows-start _ _ _ _ s (c .pre .size))
 
 add-p : tie.Need-add-p Inv-loop μ-loop
 add-p c = search needs
@@ -57,7 +57,7 @@ row-here :
     RowOf (start w .args .t1) (now (start w .args .previous)) (start w .args .t1 .next) (turn w .loop .p) (w .wide .result)
 row-here w =
     let s = start w in
-    row-of _ (s .args .backs .now) (s .args .forwards .now) (s .pre .sound) (s .pre) (omega arith) (omega arith)
+    row-of _ (s .args .conflicts .now) (s .args .backs .now) (s .args .forwards .now) (s .pre .sound) (s .pre) (omega arith) (omega arith)
     (w .before .before .number .ensures .0) (w .wide .ensures)
 
 row-requires : tie.Need-row-requires Inv-loop μ-loop
@@ -69,7 +69,7 @@ returns : tie.Need-returns Inv-loop μ-loop
 returns c =
     let w = c .before .before .before .before .before in
     let sound = start w .pre .sound in
-    rows-found _ _ _ sound (turn w .loop .inv .1 sound) (c .before .row .ensures _ (row-here w)) (add-one _) (omega (arith, c .if2 .taken))
+    rows-found _ _ _ _ sound (turn w .loop .inv .1 sound) (c .before .row .ensures _ (row-here w)) (add-one _) (omega (arith, c .if2 .taken))
 
 loop-less : tie.Need-loop-less Inv-loop μ-loop
 loop-less c = omega arith
@@ -79,22 +79,22 @@ loop-again c = (
   omega arith,
   λ s.
       let w = c .before .before .before .before .before in
-      rows-more _ _ _ s (turn w .loop .inv .1 s) (c .before .row .ensures _ (row-here w)) (omega (arith, c .if2 .left)),
+      rows-more _ _ _ _ s (turn w .loop .inv .1 s) (c .before .row .ensures _ (row-here w)) (omega (arith, c .if2 .left)),
 )
 
 loop-less-2 : tie.Need-loop-less-2 Inv-loop μ-loop
 loop-less-2 c = omega arith
 
 loop-again-2 : tie.Need-loop-again-2 Inv-loop μ-loop
-loop-again-2 c = (omega arith, λ s. rows-skip _ _ _ s (c .before .before .loop .inv .1 s) (omega arith))
+loop-again-2 c = (omega arith, λ s. rows-skip _ _ _ _ s (c .before .before .loop .inv .1 s) (omega arith))
 
 returns-2 : tie.Need-returns-2 Inv-loop μ-loop
 returns-2 c =
     let sound = c .before .before .pre .sound in
-    rows-end _ _ _ sound (c .before .loop .inv .1 sound) (omega arith)
+    rows-end _ _ _ _ sound (c .before .loop .inv .1 sound) (omega arith)
 
-pub conflicts-spec : {M : Type 1} → statement M
-conflicts-spec =
+pub count-edges-spec : {M : Type 1} → statement M
+count-edges-spec =
     tie.close
     (tie.spec
     Inv-loop

@@ -1,0 +1,13 @@
+-- `both_endless` meets its contract: both depths are endless.
+use borrow.Author.Tests.{eq-eqb, ne-eqb}
+use Rattle.least.proofs.inner.both_endless.Statement.{statement}
+use Rattle.least.proofs.inner.both_endless.Tie as tie
+
+returns : tie.Need-returns
+returns c = rw (eq-eqb _ _ (c .if1 .taken))
+
+returns-2 : tie.Need-returns-2
+returns-2 c = rw (ne-eqb _ _ (c .if1 .left))
+
+pub both-endless-spec : {M : Type 1} → statement M
+both-endless-spec = tie.close (tie.spec returns returns-2)
