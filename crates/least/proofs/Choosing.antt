@@ -78,7 +78,9 @@ module _ {need : List ℕ} {a before after b : ℕ} (f : FirstFrom need a before
     finite = f .finite;
     is = f .is;
     first = λ c m n k. elim (ℕ-discrete c (a - 1)) [
-      | yes z ↦ (let w : getD need c 0 ≡ b = rw z (sym e) in let l = h (omega arith) in rw (w, z) (record { fewer = omega arith; tie = λ y. absurd (omega arith) }))
+      | yes z ↦ (let w : getD need c 0 ≡ b = rw z (sym e) in
+          let l = h (omega arith) in
+          rw (w, z) (record { fewer = omega arith; tie = λ y. absurd (omega arith) }))
       | no z ↦ f .first c (omega arith) n k
     ];
   }

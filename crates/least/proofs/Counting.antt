@@ -52,8 +52,8 @@ module _ (worst : List ℕ) (f x : ℕ) where
     raised-least = raised-cases (λ w. x ≤ getD w f 0) (λ l. rw (getD-set-same worst f x 0 inside) (omega arith)) (λ l. l)
 
     pub raised-sources :
-        {c : Coder} {conflicts : List ℕ} {backs forwards : List (List ℕ)} → Source c conflicts backs forwards f x → Sources c conflicts backs forwards worst →
-        Sources c conflicts backs forwards (raised worst f x)
+        {c : Coder} {conflicts : List ℕ} {backs forwards : List (List ℕ)} → Source c conflicts backs forwards f x →
+        Sources c conflicts backs forwards worst → Sources c conflicts backs forwards (raised worst f x)
     raised-sources {c} {conflicts} {backs} {forwards} s h = raised-cases (Sources c conflicts backs forwards)
         (λ l g m. elim (ℕ-discrete g f) [
           | yes e ↦ (let z : getD (set worst f x) g 0 ≡ x = rw e (getD-set-same worst f x 0 inside) in rw (z, e) s)
@@ -101,7 +101,8 @@ module _ (next : List ℕ) (backs forwards : List (List ℕ)) (p q : ℕ) (befor
 
 -- ---- a row: the walk along the chain has come to the entry numbered y
 
-module _ (c : Coder) (conflicts : List ℕ) (backs forwards : List (List ℕ)) (previous next : List ℕ) (p from : ℕ) (r : RowOf c previous next p from) where
+module _ (c : Coder) (conflicts : List ℕ) (backs forwards : List (List ℕ)) (previous next : List ℕ) (p from : ℕ)
+    (r : RowOf c previous next p from) where
   abbrev Key : ℕ → Bool
   Key = hasKey (c .output) (c .states) (c .inputs) (getD (c .output) p 0)
 

@@ -69,7 +69,8 @@ pub record RowAsked (previous next : List ℕ) (p from : ℕ) (before : List ℕ
   pub of : RowOf c previous next p from
   pub size : length before ≡ 256
 
-pub record RowDone (c : Coder) (conflicts : List ℕ) (backs forwards : List (List ℕ)) (p : ℕ) (before : List ℕ) (r : ℕ) (after : List ℕ) : Type 0 where
+pub record RowDone (c : Coder) (conflicts : List ℕ) (backs forwards : List (List ℕ))
+    (p : ℕ) (before : List ℕ) (r : ℕ) (after : List ℕ) : Type 0 where
   pub high : r ≤ 256
   pub size : length after ≡ 256
   pub grows : Grows before after
@@ -77,13 +78,20 @@ pub record RowDone (c : Coder) (conflicts : List ℕ) (backs forwards : List (Li
   pub none : r ≡ 0 → (q : ℕ) → Conflicting c conflicts p q → Counted c backs forwards after p q
   pub some : 0 < r → EndlessConflict c conflicts backs forwards p (r - 1)
 
+-- what `row` does, whatever coder its arrays are of
+abbrev pub RowCounted :
+    List ℕ → List ℕ → List ℕ → List (List ℕ) → List (List ℕ) → ℕ → ℕ → List ℕ → ℕ → List ℕ → Type 0
+RowCounted previous next conflicts backs forwards p from before r after =
+    (c : Coder) → RowOf c previous next p from → RowDone c conflicts backs forwards p before r after
+
 pub record ConflictsAsked (c : Coder) (last previous before : List ℕ) : Type 0 where
   pub size : length before ≡ 256
   pub sound : Sound c
   pub chained : Chained (c .output) (c .states) (c .inputs) (record { last = last; previous = previous })
 
 -- all conflicting edges are counted, or one is found that is endless on both sides
-pub record ConflictsDone (c : Coder) (conflicts : List ℕ) (backs forwards : List (List ℕ)) (before : List ℕ) (e : Edge) (after : List ℕ) : Type 0 where
+pub record ConflictsDone (c : Coder) (conflicts : List ℕ) (backs forwards : List (List ℕ))
+    (before : List ℕ) (e : Edge) (after : List ℕ) : Type 0 where
   pub size : length after ≡ 256
   pub sources : Sources c conflicts backs forwards before → Sources c conflicts backs forwards after
   pub none : e .x ≡ 0 → (p q : ℕ) → Conflicting c conflicts p q → Counted c backs forwards after p q

@@ -3,12 +3,11 @@ ghost use mathlib.Core.Bool.{_&&_};
 ghost use mathlib.Core.Path.{_≡_};
 ghost use Prim.Native.Nat.{_<_, max};
 ghost use Rattle.mealy.specs.Order.{FewestLetters};
-ghost use Rattle.coder.specs.declared.inner.tables.Coder.{Coder as CoderOf};
 ghost use lib.ListN.{getD};
 ghost use lib.Dec.{eqb};
 ghost use Rattle.coder.specs.Limits.{maxSide};
 ghost use Rattle.product.specs.Depth.{endless};
-ghost use Rattle.least.specs.Need.{raised, CountAsked, CountedOne, RowAsked, RowOf, RowDone, ConflictsAsked, ConflictsDone};
+ghost use Rattle.least.specs.Need.{raised, CountAsked, CountedOne, RowAsked, RowCounted, ConflictsAsked, ConflictsDone};
 ghost use Rattle.least.specs.Need.{Needs, Chosen};
 use chains::inner::wide;
 use coder::inner::bytes::number;
@@ -74,7 +73,7 @@ fn row<'a>(
     worst: &mut [u8; 256],
 ) -> usize
     requires { ⌜ RowAsked (now previous) (now next) p from (now worst) ⌝ }
-    ensures { λ r. ⌜ ((c : CoderOf) → RowOf c (now (previous .entry)) (now (next .entry)) p from → RowDone c (now (conflicts .entry)) (now (backs .entry)) (now (forwards .entry)) p (now (worst .entry)) r (now (worst .exit))) ⌝ }
+    ensures { λ r. ⌜ RowCounted (now (previous .entry)) (now (next .entry)) (now (conflicts .entry)) (now (backs .entry)) (now (forwards .entry)) p from (now (worst .entry)) r (now (worst .exit)) ⌝ }
 {
     let set = conflicts[p % 16];
     let mut y = from;
@@ -91,7 +90,8 @@ fn row<'a>(
     0
 }
 
-// Counts all conflicting edges, word i of `conflicts` holding the letters that conflict with i, or finds one that is endless on both sides; its x is 0 where there is none.
+// Counts all conflicting edges, word i of `conflicts` holding the letters that conflict with i, or finds one that is endless on both
+// sides; its x is 0 where there is none.
 pub fn count_edges<'a>(
     c: Coder,
     last: &'a [u16; 64],

@@ -30,7 +30,8 @@ endless-pair n square u v h l m e =
     let z = parts u v (omega arith) in
     record { row = rw (z .0) l; column = rw (z .1) m; is = rw (z .0, z .1) e }
 
-module _ (c : Coder) (sound : Sound c) (starts : ℕ) (d : Direction) {square : List (List ℕ)} {xs ys : List ℕ} (found : DepthsFound c d starts square xs ys) where
+module _ (c : Coder) (sound : Sound c) (starts : ℕ) (d : Direction) {square : List (List ℕ)} {xs ys : List ℕ}
+    (found : DepthsFound c d starts square xs ys) where
   -- the edge kept for the pair a leads to an endless pair
   record KeptEdge (a : ℕ) : Type 0 where
     pub follow : Followable xs ys (farEnds d c) a
@@ -90,7 +91,8 @@ module _ (c : Coder) (sound : Sound c) (starts : ℕ) (d : Direction) {square : 
 
     pub walk-step :
         (r : ℕ) →
-        Step (machineOfCoder c) d (Pair r / 16) (Pair r % 16) (keptEntry xs (Pair r) % 16) (keptEntry ys (Pair r) % 16) (Pair (suc r) / 16) (Pair (suc r) % 16)
+        Step (machineOfCoder c) d (Pair r / 16) (Pair r % 16) (keptEntry xs (Pair r) % 16) (keptEntry ys (Pair r) % 16)
+        (Pair (suc r) / 16) (Pair (suc r) % 16)
     unfolding after
     walk-step r = kept-edge (Pair r) (endless-after r) .edge
 

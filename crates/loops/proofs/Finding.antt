@@ -47,7 +47,8 @@ stateOf : Run → ℕ → ℕ
 stateOf first a = a / 16
 stateOf second a = a % 16
 
-module _ (c : Coder) (starts : ℕ) (conflicts : List ℕ) {bx by fx fy : List ℕ} {e : product.Edge} (z : FindFrom c starts conflicts bx by fx fy e) where
+module _ (c : Coder) (starts : ℕ) (conflicts : List ℕ) {bx by fx fy : List ℕ} {e : product.Edge}
+    (z : FindFrom c starts conflicts bx by fx fy e) where
   abbrev S : Setting
   S = worded (machineOfCoder c) starts conflicts
 

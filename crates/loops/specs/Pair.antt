@@ -41,3 +41,8 @@ pub record FoundPair (c : Coder) (starts : ℕ) (conflicts : List ℕ) (r : Loop
   pub short : mealy.Short (c .states) (pairOf r now′)
   pub size : length now′ ≡ length before
   pub rest : drop (2 * mealy.letters (pairOf r now′)) now′ ≡ drop (2 * mealy.letters (pairOf r now′)) before
+
+-- what `find` does, whatever start states and conflicts the depths are of
+abbrev pub FindDone : Coder → List ℕ → List ℕ → List ℕ → List ℕ → Edge → LoopedPair → List ℕ → List ℕ → Type 0
+FindDone c bx by fx fy e r before now′ =
+    (starts : ℕ) (conflicts : List ℕ) → FindFrom c starts conflicts bx by fx fy e → FoundPair c starts conflicts r before now′

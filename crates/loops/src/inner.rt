@@ -3,10 +3,9 @@
 // A pair of states (u, v) is numbered 16 u + v. An endless pair a has an edge to an endless pair: the entries numbered xs[a] and
 // ys[a], counted from 1. One code for both directions: `far` has the far end of each entry.
 ghost use mathlib.Core.Path.{_≡_};
-ghost use mathlib.Core.List.{List};
 ghost use Prim.Native.Nat.{ℕ, _+_, _*_, _<_, _≤_};
 ghost use Rattle.loops.specs.Walk.{step as stepOf, after, Followable, Repeats, placeOf, WriteAsked, Wrote};
-ghost use Rattle.loops.specs.Pair.{FindFrom, FindAsked, FoundPair};
+ghost use Rattle.loops.specs.Pair.{FindAsked, FindDone};
 use chains::inner::wide;
 use coder::inner::bytes::number;
 use coder::inner::tables::Coder;
@@ -101,7 +100,7 @@ pub fn find<'a>(
     letters: &mut [u8],
 ) -> LoopedPair
     requires { ⌜ FindAsked c (now bx) (now by) (now fx) (now fy) e (now letters) ⌝ }
-    ensures { λ r. ⌜ ((starts : ℕ) (conflicts : List ℕ) → FindFrom c starts conflicts (now (bx .entry)) (now (by .entry)) (now (fx .entry)) (now (fy .entry)) e → FoundPair c starts conflicts r (now (letters .entry)) (now (letters .exit))) ⌝ }
+    ensures { λ r. ⌜ FindDone c (now (bx .entry)) (now (by .entry)) (now (fx .entry)) (now (fy .entry)) e r (now (letters .entry)) (now (letters .exit)) ⌝ }
 {
     let states = c.states;
     let source = product::inner::source();

@@ -160,7 +160,9 @@ module _ {R : Relation} (order : Order R) (S : Setting) where
     pub least-exists : (b a : ℕ) → Works S b a → (b : ℕ) × (a : ℕ) × Least R S b a
     least-exists b a f =
         ⊎-elim
-        (λ s. (s .0, s .1, least-among closed K (settled forward) (s .0) (s .1) (s .2 .works) (λ b′ a′ l h. s .2 .least b′ a′ (omega arith) h)))
+        (λ s.
+        let l = s .2 in
+        (s .0, s .1, least-among closed K (settled forward) (s .0) (s .1) (l .works) (λ b′ a′ m h. l .least b′ a′ (omega arith) h)))
         (λ z. absurd (z b K (omega arith) (works-settled S closed K (settled forward) b a f)))
         (below (suc K))
 

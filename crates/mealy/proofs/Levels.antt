@@ -38,5 +38,5 @@ module _ (S : Setting) (d : Direction) where
     settled-after = le-ind (λ m. Settled S d m) settled (λ m _ f u v h. (h .0, h .1, neighbour-map f (h .2)))
 
     -- what is left when the levels have settled is in every level
-    pub endless : (u v : ℕ) → Level S d K u v → (m : ℕ) → Level S d m u v
-    endless u v h m = always (λ k. Level S d k u v) (λ k. level-fall k u v) K (λ k l. settled-after k l u v) h m
+    pub every-level : (u v : ℕ) → Level S d K u v → (m : ℕ) → Level S d m u v
+    every-level u v h m = always (λ k. Level S d k u v) (λ k. level-fall k u v) K (λ k l. settled-after k l u v) h m

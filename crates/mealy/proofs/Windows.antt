@@ -9,7 +9,7 @@ use Rattle.mealy.specs.Setting.{Setting, Closed}
 use Rattle.mealy.specs.Window.{EqualOutputs, Works}
 use Rattle.mealy.specs.Product.{back, forward, Level, Settled, ConflictEdge}
 use Rattle.mealy.proofs.Edges.{equal-cons, equal-edge, equal-tail}
-use Rattle.mealy.proofs.Levels.{level-down, endless}
+use Rattle.mealy.proofs.Levels.{level-down, every-level}
 use Rattle.mealy.proofs.Runs.{prefix, forward→runs, edge-start, back-edge, forward-along}
 
 -- the level sets of the window b a, and a conflicting edge between them
@@ -91,16 +91,16 @@ module _ (S : Setting) (closed : Closed S) where
   pub works-settled : (L : ℕ) → Settled S forward L → (b a : ℕ) → Works S b a → Works S b L
   works-settled L settled b a f =
       unambiguous→works b L (λ c.
-      works→unambiguous S b a f (conflict-map (λ s t h. h) (λ u v h. endless S forward L settled u v h a) c))
+      works→unambiguous S b a f (conflict-map (λ s t h. h) (λ u v h. every-level S forward L settled u v h a) c))
 
   -- and letters past the level where the back levels have settled help none
   pub works-settled-back : (K : ℕ) → Settled S back K → (b a : ℕ) → Works S b a → Works S K a
   works-settled-back K settled b a f =
       unambiguous→works K a (λ c.
-      works→unambiguous S b a f (conflict-map (λ s t h. endless S back K settled s t h b) (λ u v h. h) c))
+      works→unambiguous S b a f (conflict-map (λ s t h. every-level S back K settled s t h b) (λ u v h. h) c))
 
   -- a conflicting edge between settled levels: no window works, whatever its sides
   pub no-decoder : (K L : ℕ) → Settled S back K → Settled S forward L → Ambiguous S K L → (b a : ℕ) → Works S b a → ⊥
   no-decoder K L settledK settledL c b a f =
       works→unambiguous S b a f
-      (conflict-map (λ s t h. endless S back K settledK s t h b) (λ u v h. endless S forward L settledL u v h a) c)
+      (conflict-map (λ s t h. every-level S back K settledK s t h b) (λ u v h. every-level S forward L settledL u v h a) c)

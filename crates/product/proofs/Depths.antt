@@ -10,7 +10,7 @@ use native.Mathlib.Decide.{decLt, ℕ-discrete}
 use lib.ListN.{getD, List·getD-eq-default}
 use Rattle.mealy.specs.Setting.{Setting, Bounded, worded}
 use Rattle.mealy.specs.Product.{Direction, back, forward, Settled, pairs}
-use Rattle.mealy.proofs.Levels.{level-start, level-fall, endless as every-level}
+use Rattle.mealy.proofs.Levels.{level-start, level-fall, every-level}
 use Rattle.mealy.proofs.Settling.{settled-by}
 use Rattle.coder.specs.Table.{machineOfCoder, Sound}
 use Rattle.coder.specs.declared.inner.tables.Coder.{Coder}

@@ -48,6 +48,12 @@ pub record SeekAsked (last previous output far′ : List ℕ) (square : List (Li
   pub arrays : ArraysOf c d last previous output far′
   pub seeking : Seeking c d (Above square k) u v (e .x) (e .y)
 
+-- what `seek` does, whatever coder, direction and first state its arrays and its edge are of
+abbrev pub SeekDone : List ℕ → List ℕ → List ℕ → List ℕ → List (List ℕ) → ℕ → ℕ → Edge → Edge → Type 0
+SeekDone last previous output far′ square k v from r =
+    (c : Coder) (d : Direction) (u : ℕ) → ArraysOf c d last previous output far′ →
+    Seeking c d (Above square k) u v (from .x) (from .y) → Sought c d (Above square k) u v r
+
 -- The depth x of a pair is right up to level k: at each of these levels the pair stands exactly below x, and x is above k only
 -- as `endless`.
 pub record RightTo (P : ℕ → Type 0) (k x : ℕ) : Type 0 where
@@ -116,6 +122,13 @@ pub record RoundAsked (last previous output far′ : List ℕ) (states k : ℕ) 
 pub record Rounded (c : Coder) (d : Direction) (starts : ℕ) (k : ℕ) (square : List (List ℕ)) (xs ys : List ℕ) (r : Bool) : Type 0 where
   pub after : After c d starts k square xs ys
   pub changed : Changed square k r
+
+-- the same, whatever coder, direction and start states the arrays are of
+abbrev pub RoundDone :
+    List ℕ → List ℕ → List ℕ → List ℕ → ℕ → ℕ → List (List ℕ) → List ℕ → List ℕ → List (List ℕ) → List ℕ → List ℕ → Bool → Type 0
+RoundDone last previous output far′ states k square xs ys square′ xs′ ys′ r =
+    (c : Coder) (d : Direction) (starts : ℕ) → ArraysOf c d last previous output far′ → states ≡ c .states →
+    Before c d starts k square xs ys → Rounded c d starts k square′ xs′ ys′ r
 
 -- both states of a pair are start states
 abbrev pub BothStart : ℕ → ℕ → ℕ → ℕ → Type 0

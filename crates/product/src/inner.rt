@@ -12,7 +12,7 @@ ghost use Rattle.coder.specs.Table.{Sound};
 ghost use Rattle.coder.specs.declared.inner.tables.Coder.{Coder as CoderOf};
 ghost use Rattle.product.specs.Depth.{at};
 ghost use Rattle.product.specs.Entries.{sources, nearEnds, farEnds, ArraysOf};
-ghost use Rattle.product.specs.Rounds.{Above, Seeking, Sought, SeekAsked, RoundAsked, Before, Rounded, StartIn, BothStart};
+ghost use Rattle.product.specs.Rounds.{SeekAsked, SeekDone, RoundAsked, RoundDone, StartIn, BothStart};
 ghost use Rattle.product.specs.Rounds.{Started, Kept, FirstEdges, AlongAsked, DepthsFound};
 use chains::inner::wide;
 use coder::inner::bytes::number;
@@ -74,7 +74,7 @@ fn seek<'a>(
     k: u8,
 ) -> Edge
     requires { ⌜ SeekAsked (now last) (now previous) (now output) (now far) (now d) k v from ⌝ }
-    ensures { λ r. ⌜ ((c : CoderOf) (way : Direction) (u : ℕ) → ArraysOf c way (now (last .entry)) (now (previous .entry)) (now (output .entry)) (now (far .entry)) → Seeking c way (Above (now (d .entry)) k) u v (from .x) (from .y) → Sought c way (Above (now (d .entry)) k) u v r) ⌝ }
+    ensures { λ r. ⌜ SeekDone (now (last .entry)) (now (previous .entry)) (now (output .entry)) (now (far .entry)) (now (d .entry)) k v from r ⌝ }
 {
     let mut x = from.x;
     let mut y = from.y;
@@ -107,7 +107,8 @@ fn round<'a>(
     k: u8,
 ) -> bool
     requires { ⌜ RoundAsked (now last) (now previous) (now output) (now far) states k (now d) (now xs) (now ys) ⌝ }
-    ensures { λ r. ⌜ ((c : CoderOf) (way : Direction) (starts : ℕ) → ArraysOf c way (now (last .entry)) (now (previous .entry)) (now (output .entry)) (now (far .entry)) → states ≡ c .states → Before c way starts k (now (d .entry)) (now (xs .entry)) (now (ys .entry)) → Rounded c way starts k (now (d .exit)) (now (xs .exit)) (now (ys .exit)) r) ⌝ }
+    ensures { λ r. ⌜ RoundDone (now (last .entry)) (now (previous .entry)) (now (output .entry)) (now (far .entry)) states k
+        (now (d .entry)) (now (xs .entry)) (now (ys .entry)) (now (d .exit)) (now (xs .exit)) (now (ys .exit)) r ⌝ }
 {
     let end = 16 * states;
     let mut changed = false;

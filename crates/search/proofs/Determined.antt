@@ -3,18 +3,16 @@ use mathlib.Core.Path.{_≡_, refl, sym, ap₂, _∙_}
 use mathlib.Core.Logic.{_↔_}
 use mathlib.Core.List.{List}
 use Prim.Native.Nat.{ℕ, zero, suc}
-use native.Mathlib.Omega.{arith}
 use lib.ListN.{length}
 use lib.Dec.{leb}
 use Rattle.mealy.specs.Setting.{Setting}
 use Rattle.mealy.specs.Window.{Works}
 use Rattle.mealy.specs.Order.{Relation, Order}
 use Rattle.mealy.proofs.LeastWindows.{least-unique, fewest-letters}
-use Rattle.coder.specs.Refusal.{upon}
 use Rattle.coder.specs.File.{settingOf}
 use Rattle.values.specs.Window.{window}
 use Rattle.values.specs.declared.Window.{Window}
-use Rattle.search.specs.Search.{searchRefusal, wanted, order, Says, FoundVerdict, RefusedSearch, SearchPromise}
+use Rattle.search.specs.Search.{searchRefusal, wanted, order, Says, FoundVerdict, SearchPromise}
 use Rattle.search.specs.declared.Verdict.{Verdict}
 use Rattle.search.specs.declared.Verdict.the-variants.{Least, NoDecoder}
 use Rattle.search.specs.declared.SearchResult.{SearchResult}

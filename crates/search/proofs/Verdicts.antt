@@ -1,12 +1,12 @@
 -- From what the parts of the search do to what its verdict says.
 use mathlib.Core.Path.{_≡_, refl}
 use mathlib.Core.List.{List}
-use Prim.Native.Nat.{ℕ, _<_, _-_}
+use Prim.Native.Nat.{ℕ, _<_}
 use native.Mathlib.Omega.{arith}
 use lib.ListN.{getD, replicate}
 use Rattle.mealy.specs.Setting.{Setting, Closed, worded}
+use Rattle.mealy.specs.Order.{Relation, Order}
 use Rattle.mealy.specs.Product.{back, forward}
-use Rattle.mealy.proofs.LeastWindows.{fewest-letters}
 use Rattle.mealy.proofs.LoopedPairs.{turned-runs, excludes}
 use Rattle.coder.specs.Table.{machineOfCoder, Sound}
 use Rattle.coder.specs.declared.inner.tables.Coder.{Coder}
@@ -23,13 +23,17 @@ use Rattle.values.specs.declared.Window.{Window}
 use Rattle.least.proofs.Meaning.{need-finite, least-window, sides-small}
 use Rattle.loops.specs.Pair.{FindFrom, FoundPair}
 use Rattle.values.specs.declared.LoopedPair.{LoopedPair}
-use Rattle.search.specs.Search.{order, Says}
+use Rattle.search.specs.Search.{Says}
 use Rattle.search.specs.declared.Verdict.the-variants.{Least, NoDecoder}
 
 -- ---- on a checked coder
 
 pub output-keys : (c : Coder) → Sound c → Keys (c .output) (c .states) (c .inputs)
-output-keys c s = record { states = s .states-high; inputs = s .inputs-high; below = λ p. omega (arith, output-high c s p, s .outputs-high) }
+output-keys c s = record {
+  states = s .states-high;
+  inputs = s .inputs-high;
+  below = λ p. omega (arith, output-high c s p, s .outputs-high);
+}
 
 -- a table of zeros has nothing to show a source of
 pub no-sources : (c : Coder) (conflicts : List ℕ) (backs forwards : List (List ℕ)) → Sources c conflicts backs forwards (replicate 256 0)
@@ -37,8 +41,8 @@ no-sources c conflicts backs forwards f l = absurd (omega (arith, getD-zeros 256
 
 module _ (c : Coder) (starts : ℕ) (conflicts : List ℕ) (sound : Sound c)
     (closed : Closed (worded (machineOfCoder c) starts conflicts)) {backs forwards : List (List ℕ)} {bx by fx fy : List ℕ}
-    (found-back : DepthsFound c back starts backs bx by) (found-forward : DepthsFound c forward starts forwards fx fy) {e : Edge} {worst : List ℕ}
-    (done : ConflictsDone c conflicts backs forwards (replicate 256 0) e worst) where
+    (found-back : DepthsFound c back starts backs bx by) (found-forward : DepthsFound c forward starts forwards fx fy)
+    {e : Edge} {worst : List ℕ} (done : ConflictsDone c conflicts backs forwards (replicate 256 0) e worst) where
   abbrev S : Setting
   S = worded (machineOfCoder c) starts conflicts
 
@@ -48,10 +52,15 @@ module _ (c : Coder) (starts : ℕ) (conflicts : List ℕ) (sound : Sound c)
         need-finite c starts conflicts sound backs forwards (found-back .depths) (found-forward .depths) worst need (done .none none)
         (done .sources (no-sources c conflicts backs forwards)) needs
 
-    pub window-says : (w : Window) (letters : List ℕ) → Chosen order need w → Says order S (Least w) letters letters
-    window-says w letters h =
-        let l = least-window c starts conflicts sound backs forwards (found-back .depths) (found-forward .depths) worst need (done .none none) (done .sources (no-sources c conflicts backs forwards)) needs fewest-letters closed w h in
-        let s = sides-small c starts conflicts sound backs forwards (found-back .depths) (found-forward .depths) fewest-letters closed (w .before) (w .after) l in
+    pub window-says :
+        {R : Relation} → Order R → (w : Window) (letters : List ℕ) → Chosen R need w → Says R S (Least w) letters letters
+    window-says order w letters h =
+        let l =
+        least-window c starts conflicts sound backs forwards (found-back .depths) (found-forward .depths) worst need (done .none none)
+        (done .sources (no-sources c conflicts backs forwards)) needs order closed w h in
+        let s =
+        sides-small c starts conflicts sound backs forwards (found-back .depths) (found-forward .depths) order closed (w .before)
+        (w .after) l in
         record { least = l; before-small = s .0; after-small = s .1; stays = refl }
 
   module _ (some : 0 < e .x) where
@@ -68,8 +77,10 @@ module _ (c : Coder) (starts : ℕ) (conflicts : List ℕ) (sound : Sound c)
           edge = done .some some;
         }
 
-  pub pair-says : (p : LoopedPair) (letters after : List ℕ) → FoundPair c starts conflicts p letters after → Says order S (NoDecoder p) letters after
-  pair-says p letters after f = record {
+  pub pair-says :
+      (R : Relation) (p : LoopedPair) (letters after : List ℕ) → FoundPair c starts conflicts p letters after →
+      Says R S (NoDecoder p) letters after
+  pair-says R p letters after f = record {
     none = excludes S (pairOf p after) (f .valid) closed;
     valid = f .valid;
     turned = turned-runs S (pairOf p after) (f .valid);

@@ -1,5 +1,5 @@
 -- `search` meets its promise: refused with nothing written, or the verdict on the file.
-use mathlib.Core.Path.{_≡_, refl}
+use mathlib.Core.Path.{refl}
 use Rattle.coder.proofs.Refusals.{upon-refused, upon-done, via}
 use borrow.Author.Needs.{needs}
 use Rattle.search.proofs.search.Statement.{statement}

@@ -58,7 +58,8 @@ returns-2 c =
     let e = n .before .before in
     let f = e .before .before in
     count-one _ _ _ _ _ _ (f .before .before .before .number .ensures .0) (f .before .number2 .ensures .0) refl
-    (via (e .before .both-endless .ensures) (e .if1 .left)) (omega (arith, n .number3 .ensures)) (rw (n .number3 .ensures .0) at (c .raise .ensures))
+    (via (e .before .both-endless .ensures) (e .if1 .left)) (omega (arith, n .number3 .ensures))
+    (rw (n .number3 .ensures .0) at (c .raise .ensures))
 
 pub count-spec : {M : Type 1} → statement M
 count-spec =

@@ -6,7 +6,6 @@ use Rattle.mealy.specs.Product.{Direction, pairs}
 use Rattle.product.specs.Entries.{nearEnds, farEnds}
 use Rattle.product.specs.Rounds.{Before, Rounded}
 use Rattle.product.proofs.Depths.{pairs-high, near-keys, arrays-of, before-start, before-next, changed-low, depths-found}
-use borrow.Author.Needs.{needs}
 use native.Mathlib.Omega.{arith}
 use Rattle.product.proofs.inner.along.Statement.{statement}
 use Rattle.product.proofs.inner.along.Tie as tie

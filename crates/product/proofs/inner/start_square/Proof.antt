@@ -40,13 +40,17 @@ loop-less : tie.Need-loop-less Inv-loop μ-loop
 loop-less c = search needs
 
 loop-again : tie.Need-loop-again Inv-loop μ-loop
-loop-again c = let i = c .before .before .before .loop .inv in (search needs, i .1, filled-put _ (i .2) (omega arith) (c .before .both-start .ensures .yes′ (c .if1 .taken)))
+loop-again c =
+    let i = c .before .before .before .loop .inv in
+    (search needs, i .1, filled-put _ (i .2) (omega arith) (c .before .both-start .ensures .yes′ (c .if1 .taken)))
 
 loop-less-2 : tie.Need-loop-less-2 Inv-loop μ-loop
 loop-less-2 c = search needs
 
 loop-again-2 : tie.Need-loop-again-2 Inv-loop μ-loop
-loop-again-2 c = let i = c .before .before .before .loop .inv in (search needs, i .1, filled-skip _ (i .2) (omega arith) (c .before .both-start .ensures .no′ (c .if1 .left)))
+loop-again-2 c =
+    let i = c .before .before .before .loop .inv in
+    (search needs, i .1, filled-skip _ (i .2) (omega arith) (c .before .both-start .ensures .no′ (c .if1 .left)))
 
 returns : tie.Need-returns Inv-loop μ-loop
 returns c =
