@@ -39,7 +39,7 @@ fn count<'a>(
     requires { ⌜ CountAsked (now next) p q ⌝ }
     ensures { λ r. ⌜ CountedOne (now (next .entry)) (now (backs .entry)) (now (forwards .entry)) p q (now (worst .entry)) r (now (worst .exit)) ⌝ }
 {
-    let b = backs[p / 16][q / 16];
+    let b = backs[p / Coder::INPUTS][q / Coder::INPUTS];
     let u = number(next[p]);
     let v = number(next[q]);
     let f = forwards[u][v];
@@ -75,13 +75,13 @@ fn row<'a>(
     requires { ⌜ RowAsked (now previous) (now next) p from (now worst) ⌝ }
     ensures { λ r. ⌜ RowCounted (now (previous .entry)) (now (next .entry)) (now (conflicts .entry)) (now (backs .entry)) (now (forwards .entry)) p from (now (worst .entry)) r (now (worst .exit)) ⌝ }
 {
-    let set = conflicts[p % 16];
+    let set = conflicts[p % Coder::INPUTS];
     let mut y = from;
     while 0 < y {
         let here = y;
         let q = y - 1;
         y = wide(previous[q]);
-        if has(set, q % 16) {
+        if has(set, q % Coder::INPUTS) {
             if count(next, backs, forwards, p, q, worst) {
                 return here;
             }
@@ -105,12 +105,12 @@ pub fn count_edges<'a>(
     ensures { λ r. ⌜ ConflictsDone c (now (conflicts .entry)) (now (backs .entry)) (now (forwards .entry)) (now (worst .entry)) r (now (worst .exit)) ⌝ }
 {
     let inputs = c.inputs;
-    let end = 16 * c.states;
+    let end = Coder::INPUTS * c.states;
     let mut p = 0;
     while p < end {
         let place = p;
         p += 1;
-        if place % 16 < inputs {
+        if place % Coder::INPUTS < inputs {
             let o = number(c.output[place]);
             let from = wide(last[o]);
             let y = row(

@@ -26,7 +26,7 @@ fn step<'a>(xs: &'a [u16; 256], ys: &'a [u16; 256], far: &'a [u8; 256], a: usize
 {
     let p = wide(xs[a]) - 1;
     let q = wide(ys[a]) - 1;
-    16 * number(far[p]) + number(far[q])
+    Coder::STATES * number(far[p]) + number(far[q])
 }
 
 // Walks from the pair `from` until a pair comes again.
@@ -81,8 +81,8 @@ fn write<'a>(
     let mut r = 0;
     while r < n {
         let at = 2 * place_of(up, place, n, r);
-        letters[at] = ((wide(xs[a]) - 1) % 16) as u8;
-        letters[at + 1] = ((wide(ys[a]) - 1) % 16) as u8;
+        letters[at] = ((wide(xs[a]) - 1) % Coder::INPUTS) as u8;
+        letters[at + 1] = ((wide(ys[a]) - 1) % Coder::INPUTS) as u8;
         a = step(xs, ys, far, a);
         r += 1;
     }
@@ -106,20 +106,20 @@ pub fn find<'a>(
     let source = product::inner::source();
     let p = e.x - 1;
     let q = e.y - 1;
-    let start = 16 * (p / 16) + q / 16;
-    let end = 16 * number(c.next[p]) + number(c.next[q]);
+    let start = Coder::STATES * (p / Coder::INPUTS) + q / Coder::INPUTS;
+    let end = Coder::STATES * number(c.next[p]) + number(c.next[q]);
     let back = walk(bx, by, &source, states, start);
     let forward = walk(fx, fy, &c.next, states, end);
     let before = back.steps;
     let after = forward.steps;
     let first = back.pair;
     write(bx, by, &source, start, before, 0, false, letters);
-    letters[2 * before] = (p % 16) as u8;
-    letters[2 * before + 1] = (q % 16) as u8;
+    letters[2 * before] = (p % Coder::INPUTS) as u8;
+    letters[2 * before + 1] = (q % Coder::INPUTS) as u8;
     write(fx, fy, &c.next, end, after, before + 1, true, letters);
     LoopedPair {
-        s: first / 16,
-        t: first % 16,
+        s: first / Coder::STATES,
+        t: first % Coder::STATES,
         back_loop: before - back.lead,
         lead_in: back.lead,
         lead_out: forward.lead,

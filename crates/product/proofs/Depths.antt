@@ -12,6 +12,7 @@ use Rattle.mealy.specs.Setting.{Setting, Bounded, worded}
 use Rattle.mealy.specs.Product.{Direction, back, forward, Settled, pairs}
 use Rattle.mealy.proofs.Levels.{level-start, level-fall, every-level}
 use Rattle.mealy.proofs.Settling.{settled-by}
+use Rattle.coder.specs.Limits.{maxStates, maxSide}
 use Rattle.coder.specs.Table.{machineOfCoder, Sound}
 use Rattle.coder.specs.declared.inner.tables.Coder.{Coder}
 use Rattle.coder.proofs.Fill.{length-table}
@@ -27,8 +28,7 @@ use Rattle.coder.proofs.Tables.{next-high}
 use Rattle.product.proofs.Seeking.{chain-last, last-is}
 use Rattle.product.proofs.Rounds.{seeking-map}
 
--- 136 for 16 states
-pub pairs-high : (n : ℕ) → n ≤ 16 → pairs n ≤ 136
+pub pairs-high : (n : ℕ) → n ≤ maxStates → pairs n ≤ maxSide
 pairs-high n l = let k : n + 1 ≤ 17 = omega arith in let h : n * (n + 1) ≤ 16 * 17 = mul-le-mul l k in omega arith
 
 -- ---- the keys of a direction
@@ -144,7 +144,7 @@ module _ (c : Coder) (d : Direction) (starts : ℕ) (sound : Sound c) where
 
   module _ {k : ℕ} {square : List (List ℕ)} {xs ys : List ℕ} (low : k ≤ pairs (c .states)) (r : After c d starts k square xs ys)
       (none : Some square (suc k) → ⊥) where
-    k-high : k ≤ 136
+    k-high : k ≤ maxSide
     k-high = omega (arith, pairs-high (c .states) (sound .states-high))
 
     -- a depth is at most k, or endless

@@ -2,16 +2,15 @@
 //
 // One code for both directions: `far` has the far end of each entry, and `last` and `previous` chain the entries by their near ends.
 ghost use mathlib.Core.Path.{_≡_};
-ghost use mathlib.Core.Bool.{Bool, _&&_};
-ghost use Prim.Native.Nat.{ℕ, _+_, _<_, _≤_};
+ghost use mathlib.Core.Bool.{_&&_};
+ghost use Prim.Native.Nat.{_+_, _<_, _≤_};
 ghost use lib.ListN.{getD};
 ghost use lib.Dec.{ltb, eqb};
 ghost use Rattle.mealy.specs.Product.{Direction, back as backward, forward as onward};
 ghost use Rattle.coder.specs.Refusal.{Judges};
 ghost use Rattle.coder.specs.Table.{Sound};
-ghost use Rattle.coder.specs.declared.inner.tables.Coder.{Coder as CoderOf};
 ghost use Rattle.product.specs.Depth.{at};
-ghost use Rattle.product.specs.Entries.{sources, nearEnds, farEnds, ArraysOf};
+ghost use Rattle.product.specs.Entries.{sources, nearEnds, farEnds};
 ghost use Rattle.product.specs.Rounds.{SeekAsked, SeekDone, RoundAsked, RoundDone, StartIn, BothStart};
 ghost use Rattle.product.specs.Rounds.{Started, Kept, FirstEdges, AlongAsked, DepthsFound};
 use chains::inner::wide;
@@ -35,7 +34,7 @@ pub fn source() -> [u8; 256]
     let mut s = [0u8; 256];
     let mut p = 0;
     while p < 256 {
-        s[p] = (p / 16 % 256) as u8;
+        s[p] = (p / Coder::INPUTS % 256) as u8;
         p += 1;
     }
     s
@@ -110,13 +109,13 @@ fn round<'a>(
     ensures { λ r. ⌜ RoundDone (now (last .entry)) (now (previous .entry)) (now (output .entry)) (now (far .entry)) states k
         (now (d .entry)) (now (xs .entry)) (now (ys .entry)) (now (d .exit)) (now (xs .exit)) (now (ys .exit)) r ⌝ }
 {
-    let end = 16 * states;
+    let end = Coder::STATES * states;
     let mut changed = false;
     let mut a = 0;
     while a < end {
         let place = a;
-        let u = a / 16;
-        let v = a % 16;
+        let u = a / Coder::STATES;
+        let v = a % Coder::STATES;
         a += 1;
         if d[u][v] == ENDLESS {
             let from = Edge {
@@ -164,12 +163,12 @@ fn start_square(states: usize, starts: u16) -> [[u8; 16]; 16]
     requires { ⌜ states ≤ 16 ⌝ }
     ensures { λ r. ⌜ Started states starts r ⌝ }
 {
-    let end = 16 * states;
+    let end = Coder::STATES * states;
     let mut d = [[0u8; 16]; 16];
     let mut a = 0;
     while a < end {
-        let u = a / 16;
-        let v = a % 16;
+        let u = a / Coder::STATES;
+        let v = a % Coder::STATES;
         a += 1;
         if both_start(states, starts, u, v) {
             d[u][v] = ENDLESS;
@@ -183,11 +182,11 @@ fn first_edges(last: &[u16; 64], states: usize, xs: &mut [u16; 256], ys: &mut [u
     requires { ⌜ Kept (now xs) (now ys) × (states ≤ 16) ⌝ }
     ensures { λ _. ⌜ FirstEdges (now (last .entry)) states (now (xs .exit)) (now (ys .exit)) ⌝ }
 {
-    let end = 16 * states;
+    let end = Coder::STATES * states;
     let mut a = 0;
     while a < end {
-        xs[a] = last[a / 16];
-        ys[a] = last[a % 16];
+        xs[a] = last[a / Coder::STATES];
+        ys[a] = last[a % Coder::STATES];
         a += 1;
     }
 }

@@ -1,6 +1,7 @@
 -- `along` meets its contract. Before round k every depth is right up to level k; a round that changes nothing is the last.
-use Prim.Native.Nat.{_≤_, _<_, _-_}
+use Prim.Native.Nat.{suc, _≤_, _<_, _-_}
 use denote.Ref.{now}
+use Rattle.coder.specs.Limits.{maxSide}
 use mathlib.Core.Path.{_≡_, refl}
 use Rattle.mealy.specs.Product.{Direction, pairs}
 use Rattle.product.specs.Entries.{nearEnds, farEnds}
@@ -15,7 +16,7 @@ Inv-loop near far starts xs₀ ys₀ c states inputs chain d₀ k₀ xs ys d k =
     (k ≤ pairs (c .states)) × ((w : Direction) → near ≡ nearEnds w c → far ≡ farEnds w c → Before c w starts k d xs ys)
 
 abbrev μ-loop : tie.MeasureT-loop
-μ-loop near far starts xs₀ ys₀ c states inputs chain d₀ k₀ xs ys d k = 137 - k
+μ-loop near far starts xs₀ ys₀ c states inputs chain d₀ k₀ xs ys d k = suc maxSide - k
 
 by-key-requires : tie.Need-by-key-requires Inv-loop μ-loop
 by-key-requires c κs = rw (c .pre .near-is) (near-keys _ (c .pre .sound) (c .pre .d))
@@ -78,7 +79,7 @@ low c =
     let r = rounded (c .before) (p .d) (p .near-is) (p .far-is) in
     changed-low _ _ _ (p .sound) (r .after) (r .changed .yes′ (c .if1 .taken))
 
-high : (c : tie.Then1 Inv-loop μ-loop) → pairs (start (turn (c .before)) .args .t1 .states) ≤ 136
+high : (c : tie.Then1 Inv-loop μ-loop) → pairs (start (turn (c .before)) .args .t1 .states) ≤ maxSide
 high c = pairs-high _ (start (turn (c .before)) .pre .sound .states-high)
 
 add-k : tie.Need-add-k Inv-loop μ-loop
