@@ -96,7 +96,7 @@ module _ {c : Coder} {next successors predecessors letters : List ℕ} {starts :
 
   leads-successor : (o s t : ℕ) → o < 64 → Leads successors o s t → Successor N o s t
   leads-successor o s t l h =
-      let g = holds-member (k .successors-are .holds o s l (h .0)) t (h .1) in
+      let g = holds-member (k .sets .successors-are .holds o s l (h .0)) t (h .1) in
       let e : g .p / 16 ≡ s = sym (part-at c (k .sound) false (g .p) (g .below)) ∙ g .key in
       record { x = g .p % 16; entry = rw (g .gives .1, e) at (place-entry c (k .sound) (partsOf false) (c .next) g) }
 
@@ -120,16 +120,16 @@ module _ {c : Coder} {next successors predecessors letters : List ℕ} {starts :
     state-at = part-at c (k .sound) false (16 * s + x) in-table ∙ (let y = small in omega arith)
 
     successor-leads : Leads successors o s t
-    successor-leads = (low, k .successors-are .holds o s l low .has t (entry-place c (k .sound) (partsOf false) (c .next) (e .entry) state-at at))
+    successor-leads = (low, k .sets .successors-are .holds o s l low .has t (entry-place c (k .sound) (partsOf false) (c .next) (e .entry) state-at at))
 
     successor-back : Leads predecessors o t s
     successor-back =
         let m : t < 16 = rw at at (next-low (k .sound) (16 * s + x)) in
-        (m, k .predecessors-are .holds o t l m .has s (entry-place c (k .sound) (c .next) (partsOf false) (e .entry) at state-at))
+        (m, k .sets .predecessors-are .holds o t l m .has s (entry-place c (k .sound) (c .next) (partsOf false) (e .entry) at state-at))
 
   back-successor : (o s t : ℕ) → o < 64 → Leads predecessors o t s → Successor N o s t
   back-successor o s t l h =
-      let g = holds-member (k .predecessors-are .holds o t l (h .0)) s (h .1) in
+      let g = holds-member (k .sets .predecessors-are .holds o t l (h .0)) s (h .1) in
       let e : g .p / 16 ≡ s = sym (part-at c (k .sound) false (g .p) (g .below)) ∙ g .gives .1 in
       record { x = g .p % 16; entry = rw (g .key, e) at (place-entry c (k .sound) (c .next) (partsOf false) g) }
 
@@ -137,16 +137,16 @@ module _ {c : Coder} {next successors predecessors letters : List ℕ} {starts :
   tables-asked =
       record {
         next-high = λ p. rw (k .next-is) (next-low (k .sound) p);
-        successors-words = λ o s l m. k .successors-are .holds o s l m .bound;
-        predecessors-words = λ o s l m. k .predecessors-are .holds o s l m .bound;
-        letters-words = λ o s l m. k .letters-are .holds o s l m .bound;
+        successors-words = λ o s l m. k .sets .successors-are .holds o s l m .bound;
+        predecessors-words = λ o s l m. k .sets .predecessors-are .holds o s l m .bound;
+        letters-words = λ o s l m. k .sets .letters-are .holds o s l m .bound;
         turned = λ o s t l h. successor-back o s t l (leads-successor o s t l h);
         turned′ = λ o s t l h. successor-leads o s t l (back-successor o s t l h);
       }
 
   on-entry : (x o s t : ℕ) → o < 64 → OnLetter next letters x o s t → Entry N x o s t
   on-entry x o s t l h =
-      let g = holds-member (k .letters-are .holds o s l (h .state)) x (h .letter) in
+      let g = holds-member (k .sets .letters-are .holds o s l (h .state)) x (h .letter) in
       let e : g .p / 16 ≡ s = sym (part-at c (k .sound) false (g .p) (g .below)) ∙ g .key in
       let f : g .p % 16 ≡ x = sym (part-at c (k .sound) true (g .p) (g .below)) ∙ g .gives .1 in
       let at : 16 * s + x ≡ g .p = omega arith in
@@ -164,7 +164,7 @@ module _ {c : Coder} {next successors predecessors letters : List ℕ} {starts :
       record {
         state = b;
         letter =
-            k .letters-are .holds o s l b .has x
+            k .sets .letters-are .holds o s l b .has x
             (entry-place c (k .sound) (partsOf false) (partsOf true) e
             (part-at c (k .sound) false (16 * s + x) in-table ∙ omega arith)
             (part-at c (k .sound) true (16 * s + x) in-table ∙ omega arith));

@@ -83,13 +83,17 @@ pub record PresentAsked (next predecessors letters : List ℕ) (o : ℕ) (after 
   pub letter : o < 64
   pub after-letters : Letters 64 after
 
+-- the tables of the coder c by output letter
+pub record SetsOf (c : Coder) (successors predecessors letters : List ℕ) : Type 0 where
+  pub successors-are : ByOutput (partsOf false) (c .next) (c .output) (c .states) (c .inputs) successors
+  pub predecessors-are : ByOutput (c .next) (partsOf false) (c .output) (c .states) (c .inputs) predecessors
+  pub letters-are : ByOutput (partsOf false) (partsOf true) (c .output) (c .states) (c .inputs) letters
+
 -- the arrays that the functions inside take are those of the coder c
 pub record TablesOf (c : Coder) (next successors predecessors letters : List ℕ) (starts : ℕ) : Type 0 where
   pub sound : Sound c
   pub next-is : next ≡ c .next
-  pub successors-are : ByOutput (partsOf false) (c .next) (c .output) (c .states) (c .inputs) successors
-  pub predecessors-are : ByOutput (c .next) (partsOf false) (c .output) (c .states) (c .inputs) predecessors
-  pub letters-are : ByOutput (partsOf false) (partsOf true) (c .output) (c .states) (c .inputs) letters
+  pub sets : SetsOf c successors predecessors letters
   pub starts-are : Holds (settingOfCoder c .Start) starts
 
 -- they are those of some coder

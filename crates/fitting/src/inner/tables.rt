@@ -3,7 +3,8 @@ ghost use mathlib.Core.Path.{_≡_};
 ghost use Prim.Native.Nat.{ℕ, _<_};
 ghost use lib.ListN.{length, getD};
 ghost use Rattle.mealy.specs.Word.{Holds};
-ghost use Rattle.fitting.specs.Tables.{partOf, partsOf, EntriesAsked, Gives, ByOutput};
+ghost use Rattle.coder.specs.Table.{Sound};
+ghost use Rattle.fitting.specs.Tables.{partOf, partsOf, EntriesAsked, Gives, ByOutput, SetsOf};
 use coder::inner::tables::Coder;
 
 fn none() -> [u16; 1024]
@@ -68,4 +69,27 @@ pub fn by_output<'a>(
         p += 1;
     }
     words
+}
+
+// The tables of a coder by output letter: for each state its successors, its predecessors and its input letters.
+pub struct Sets {
+    pub successors: [u16; 1024],
+    pub predecessors: [u16; 1024],
+    pub letters: [u16; 1024],
+}
+
+// The tables of a coder.
+pub fn of_coder(c: Coder) -> Sets
+    requires { ⌜ Sound c ⌝ }
+    ensures { λ r. ⌜ SetsOf c (r .successors) (r .predecessors) (r .letters) ⌝ }
+{
+    let states = c.states;
+    let inputs = c.inputs;
+    let own = parts(false);
+    let letters = parts(true);
+    Sets {
+        successors: by_output(&own, &c.next, &c.output, states, inputs),
+        predecessors: by_output(&c.next, &own, &c.output, states, inputs),
+        letters: by_output(&own, &letters, &c.output, states, inputs),
+    }
 }
