@@ -11,9 +11,10 @@ use Rattle.coder.specs.Limits.{maxSide}
 use Rattle.coder.specs.Refusal.{refuse, lettersBelow}
 use Rattle.coder.specs.File.{fileRefusal, outputsOf}
 use Rattle.coder.proofs.Refusals.{both-true, refuse-not, first-none, letters-below}
+use Rattle.filling.specs.Table.{maxTable}
 use Rattle.values.specs.Window.{size}
 use Rattle.values.specs.declared.Window.{Window}
-use Rattle.decoder.specs.Refusal.{sidesRefusal, SidesSmall, windowRefusal, stringRefusal, maxTable, tableSize, tableRefusal}
+use Rattle.decoder.specs.Refusal.{sidesRefusal, SidesSmall, windowRefusal, stringRefusal, tableSize, tableRefusal}
 use Rattle.decoder.specs.Places.{places, stringRefusalIn, StringAsked}
 use Rattle.decoder.specs.Table.{tableRefusalIn, TableAsked}
 

@@ -14,7 +14,7 @@ use Rattle.mealy.proofs.Plain.{any-closed}
 use Rattle.coder.specs.File.{fileRefusal, statesOf, inputsOf, machineOf}
 use Rattle.coder.proofs.Accepted.{accepted}
 use Rattle.coder.proofs.Tables.{total}
-use Rattle.pass.proofs.Meaning.{right-byte-unique}
+use Rattle.fitting.proofs.Answers.{right-byte-unique}
 use Rattle.coder.specs.File.{settingOf}
 use Rattle.values.specs.Window.{size}
 use Rattle.values.specs.declared.Window.{Window}

@@ -11,9 +11,11 @@ use Rattle.mealy.specs.Answer.{byteOf}
 use Rattle.coder.specs.Refusal.{answer}
 use Rattle.coder.specs.File.{fileRefusal, outputsOf, settingOf}
 use Rattle.coder.specs.Table.{coderOf}
-use Rattle.pass.specs.Answer.{meaning, RightByte}
-use Rattle.pass.specs.Pass.{decoded}
-use Rattle.pass.proofs.Meaning.{right-unique, right-byte, right-byte-unique}
+use Rattle.fitting.specs.Answer.{meaning, RightByte}
+use Rattle.filling.specs.Table.{windowAt}
+use Rattle.filling.specs.Window.{decoded}
+use Rattle.filling.proofs.Indices.{length-window}
+use Rattle.fitting.proofs.Answers.{right-unique, right-byte, right-byte-unique}
 use Rattle.coder.specs.Refusal.{upon}
 use Rattle.values.specs.Window.{size}
 use Rattle.values.specs.declared.Window.{Window}
@@ -22,14 +24,13 @@ use Rattle.decoder.specs.Count.{CountPromise}
 use Rattle.decoder.specs.Refusal.{windowRefusal}
 use Rattle.decoder.specs.Window.{AnsweredRight, WindowPromise}
 use Rattle.decoder.specs.Places.{stringRefusalIn, StringPromise}
-use Rattle.decoder.specs.Table.{windowAt, tableRefusalIn, TablePromise}
+use Rattle.decoder.specs.Table.{tableRefusalIn, TablePromise}
 use Rattle.decoder.specs.declared.WindowResult.{WindowResult}
 use Rattle.decoder.specs.declared.WindowResult.the-variants.{Refused, Answered}
 use Rattle.decoder.specs.declared.CountResult as count
 use Rattle.decoder.proofs.Accepting.{window-accepted, string-accepted, string-asked, table-accepted, table-asked}
 use Rattle.decoder.proofs.Writing.{written-front, written-unique}
-use Rattle.decoder.proofs.Indices.{length-window}
-use Rattle.decoder.proofs.Decoding.{anyFlags, file-right}
+use Rattle.decoder.proofs.Decoding.{startsOf, file-right}
 
 -- ---- one window
 
@@ -54,7 +55,7 @@ module _ (f : List ℕ) (w : Window) (received : List ℕ) where
           (r : WindowResult) × upon k (λ j. r ≡ Refused j) (AnsweredRight f w received r)
       go zero e =
           let h = window-accepted f w received true e in
-          let v = decoded (coderOf f) anyFlags received (w .before) in (
+          let v = decoded (coderOf f) (startsOf f) received (w .before) in (
             Answered v,
             record { answer = v; is = refl; right = file-right f (h .sides .file) received (w .before) (omega (arith, h .long)) },
           )
@@ -97,12 +98,12 @@ module _ (f : List ℕ) (b : ℕ) (part : ℕ → List ℕ) (n k : ℕ) (before 
       (r : count.CountResult) × (after : List ℕ) × Promise r after
   parts-exist h =
       let e =
-      bytes-exist ByteOf n before (λ j. byteOf (meaning (decoded (coderOf f) anyFlags (part j) b))) k
+      bytes-exist ByteOf n before (λ j. byteOf (meaning (decoded (coderOf f) (startsOf f) (part j) b))) k
       (λ z.
       let a = h z in (
         a .1,
         λ j l.
-            right-byte (settingOf f) (part j) b (decoded (coderOf f) anyFlags (part j) b) (file-right f (a .0) (part j) b (a .2 j l)),
+            right-byte (settingOf f) (part j) b (decoded (coderOf f) (startsOf f) (part j) b) (file-right f (a .0) (part j) b (a .2 j l)),
       )) in
       (_, e .0, record { result = refl; bytes = e .1 })
 

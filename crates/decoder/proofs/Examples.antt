@@ -13,30 +13,32 @@ use Rattle.coder.specs.Refusal.{allBelow}
 use Rattle.coder.specs.File.{within, inRange, entryInRange, entriesRefusal, fileRefusal, outputsOf, entryOf}
 use Rattle.coder.specs.Table.{table, coderOf}
 use Rattle.chains.specs.Chain.{isEntry, hasKey, over}
-use Rattle.pass.specs.Answer.{meaning, Right}
-use Rattle.pass.specs.Pass.{union, given, add, added, pass, unionOf, answerOf, decoded}
-use Rattle.pass.specs.declared.Answer.{Answer}
-use Rattle.pass.specs.declared.Answer.the-variants.{Letter, None, Several}
-use Rattle.pass.proofs.Meaning.{right-byte}
+use Rattle.fitting.specs.Answer.{meaning, Right, answerOf}
+use Rattle.filling.specs.Sets.{contribution, gather, add, added}
+use Rattle.filling.specs.Table.{windowAt}
+use Rattle.filling.proofs.Indices.{length-window}
+use Rattle.filling.specs.Window.{pass, unionOf, decoded}
+use Rattle.fitting.specs.declared.Answer.{Answer}
+use Rattle.fitting.specs.declared.Answer.the-variants.{Letter, None, Several}
+use Rattle.fitting.proofs.Answers.{right-byte}
 use Rattle.coder.specs.File.{settingOf}
 use Rattle.values.specs.Window.{window, size}
 use Rattle.values.specs.declared.Window.{Window}
 use Rattle.decoder.specs.Written.{Written}
 use Rattle.decoder.specs.Refusal.{sidesRefusal, windowRefusal, tableSize, tableRefusal}
 use Rattle.decoder.specs.Window.{WindowPromise}
-use Rattle.decoder.specs.Table.{windowAt, EntryOf, tableRefusalIn, TablePromise}
+use Rattle.decoder.specs.Table.{EntryOf, tableRefusalIn, TablePromise}
 use Rattle.decoder.specs.declared.WindowResult.the-variants.{Refused, Answered}
 use Rattle.decoder.specs.declared.CountResult.the-variants.{Done}
 use Rattle.decoder.proofs.Accepting.{window-accepted, table-accepted, table-asked}
 use Rattle.decoder.proofs.Writing.{written-front}
-use Rattle.decoder.proofs.Indices.{length-window}
-use Rattle.decoder.proofs.Decoding.{anyFlags, file-right}
+use Rattle.decoder.proofs.Decoding.{startsOf, file-right}
 
 -- ---- a call on a file, from what the pass computes
 
 answered :
     (f : List ℕ) (w : Window) (received : List ℕ) (v : Answer) → windowRefusal f w received true ≡ 0 →
-    decoded (coderOf f) anyFlags received (w .before) ≡ v → WindowPromise f w received (Answered v)
+    decoded (coderOf f) (startsOf f) received (w .before) ≡ v → WindowPromise f w received (Answered v)
 answered f w received v z e =
     let h = window-accepted f w received true z in
     rw z
@@ -50,7 +52,7 @@ answered f w received v z e =
 
 -- the byte at index k
 abbrev entryAt : List ℕ → Window → ℕ → ℕ
-entryAt f w k = byteOf (meaning (decoded (coderOf f) anyFlags (windowAt (outputsOf f) (size w) k) (w .before)))
+entryAt f w k = byteOf (meaning (decoded (coderOf f) (startsOf f) (windowAt (outputsOf f) (size w) k) (w .before)))
 
 filled :
     (f : List ℕ) (w : Window) (before bytes : List ℕ) → tableRefusalIn f w (length before) true ≡ 0 →
@@ -67,7 +69,7 @@ filled f w before bytes z e =
           (written-front (entryAt f w) (table-asked f w before true z .room)
           (λ k l.
           let part = windowAt (outputsOf f) (size w) k in
-          right-byte (settingOf f) part (w .before) (decoded (coderOf f) anyFlags part (w .before))
+          right-byte (settingOf f) part (w .before) (decoded (coderOf f) (startsOf f) part (w .before))
           (file-right f (h .sides .file) part (w .before) (omega (arith, length-window (outputsOf f) (size w) k))))));
     }
 
@@ -83,7 +85,7 @@ A-accepted = refl
 
 -- a buffer of five bytes, of which the last stays
 pub A-table : TablePromise fileA (window 1 0) (9 ∷ 9 ∷ 9 ∷ 9 ∷ 9 ∷ []) (Done 4) (0 ∷ 1 ∷ 1 ∷ 0 ∷ 9 ∷ [])
-unfolding tableRefusal sidesRefusal windowAt decoded pass added add given union unionOf answerOf leadingZeros coderOf table entryOf over hasKey isEntry
+unfolding tableRefusal sidesRefusal windowAt decoded pass added add contribution gather unionOf answerOf leadingZeros coderOf table entryOf over hasKey isEntry
 A-table = filled fileA (window 1 0) (9 ∷ 9 ∷ 9 ∷ 9 ∷ 9 ∷ []) (0 ∷ 1 ∷ 1 ∷ 0 ∷ []) (rw A-accepted) refl
 
 -- ---- D: its table for the window 0 1 is 0 1 0 1
@@ -97,7 +99,7 @@ unfolding fileRefusal entriesRefusal inRange within entryInRange allBelow
 D-accepted = refl
 
 pub D-table : TablePromise fileD (window 0 1) (9 ∷ 9 ∷ 9 ∷ 9 ∷ []) (Done 4) (0 ∷ 1 ∷ 0 ∷ 1 ∷ [])
-unfolding tableRefusal sidesRefusal windowAt decoded pass added add given union unionOf answerOf leadingZeros coderOf table entryOf over hasKey isEntry
+unfolding tableRefusal sidesRefusal windowAt decoded pass added add contribution gather unionOf answerOf leadingZeros coderOf table entryOf over hasKey isEntry
 D-table = filled fileD (window 0 1) (9 ∷ 9 ∷ 9 ∷ 9 ∷ []) (0 ∷ 1 ∷ 0 ∷ 1 ∷ []) (rw D-accepted) refl
 
 -- ---- G: a letter, none, several
@@ -112,19 +114,19 @@ unfolding fileRefusal entriesRefusal inRange within entryInRange allBelow
 G-accepted = refl
 
 pub G-letter-0 : WindowPromise fileG (window 0 1) (0 ∷ 0 ∷ []) (Answered (Letter 0))
-unfolding windowRefusal sidesRefusal decoded pass added add given union unionOf answerOf leadingZeros coderOf table entryOf over hasKey isEntry
+unfolding windowRefusal sidesRefusal decoded pass added add contribution gather unionOf answerOf leadingZeros coderOf table entryOf over hasKey isEntry
 G-letter-0 = answered fileG (window 0 1) (0 ∷ 0 ∷ []) (Letter 0) (rw G-accepted) refl
 
 pub G-letter-1 : WindowPromise fileG (window 0 1) (0 ∷ 2 ∷ []) (Answered (Letter 1))
-unfolding windowRefusal sidesRefusal decoded pass added add given union unionOf answerOf leadingZeros coderOf table entryOf over hasKey isEntry
+unfolding windowRefusal sidesRefusal decoded pass added add contribution gather unionOf answerOf leadingZeros coderOf table entryOf over hasKey isEntry
 G-letter-1 = answered fileG (window 0 1) (0 ∷ 2 ∷ []) (Letter 1) (rw G-accepted) refl
 
 pub G-none : WindowPromise fileG (window 0 1) (1 ∷ 2 ∷ []) (Answered None)
-unfolding windowRefusal sidesRefusal decoded pass added add given union unionOf answerOf leadingZeros coderOf table entryOf over hasKey isEntry
+unfolding windowRefusal sidesRefusal decoded pass added add contribution gather unionOf answerOf leadingZeros coderOf table entryOf over hasKey isEntry
 G-none = answered fileG (window 0 1) (1 ∷ 2 ∷ []) None (rw G-accepted) refl
 
 pub G-several : WindowPromise fileG (window 0 0) (0 ∷ []) (Answered Several)
-unfolding windowRefusal sidesRefusal decoded pass added add given union unionOf answerOf leadingZeros coderOf table entryOf over hasKey isEntry
+unfolding windowRefusal sidesRefusal decoded pass added add contribution gather unionOf answerOf leadingZeros coderOf table entryOf over hasKey isEntry
 G-several = answered fileG (window 0 0) (0 ∷ []) Several (rw G-accepted) refl
 
 -- with one letter too few the call is refused with 9

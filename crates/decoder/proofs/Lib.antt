@@ -3,8 +3,6 @@ pub mod Accepting
 pub mod Sizes
 pub mod Writing
 pub mod Counting
-pub mod Indices
-pub mod Filling
 pub mod Decoding
 pub mod Determined
 pub mod ComeBack

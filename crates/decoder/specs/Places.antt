@@ -8,13 +8,13 @@ use lib.Dec.{leb}
 use Rattle.mealy.specs.Machine.{Letters}
 use Rattle.mealy.specs.Setting.{Setting}
 use Rattle.mealy.specs.Answer.{byteOf}
-use Rattle.coder.specs.Limits.{maxStates, maxOutputs, maxSide}
+use Rattle.coder.specs.Limits.{maxOutputs, maxSide}
 use Rattle.coder.specs.File.{settingOf}
 use Rattle.coder.specs.declared.inner.tables.Coder.{Coder}
 use Rattle.values.specs.Window.{size}
 use Rattle.values.specs.declared.Window.{Window}
-use Rattle.pass.specs.Answer.{meaning, RightByte}
-use Rattle.pass.specs.Pass.{Arrays, decoded}
+use Rattle.fitting.specs.Answer.{meaning, RightByte}
+use Rattle.filling.specs.Window.{PassAsked, decoded}
 use Rattle.decoder.specs.Written.{Written}
 use Rattle.decoder.specs.Count.{CountPromise, CountGiven}
 use Rattle.decoder.specs.Refusal.{stringRefusal}
@@ -52,14 +52,13 @@ StringGiven f w received before count after =
 
 -- what the loop over the places asks: m windows of n letters lie in the string, and m bytes in the buffer
 pub record PlacesAsked (next start entries : List ℕ) (states : ℕ) (received : List ℕ) (b n m : ℕ) (before : List ℕ) : Type 0 where
-  pub arrays : Arrays next start entries
-  pub states-high : states ≤ maxStates
+  pub arrays : PassAsked next start entries states
   pub letters : Letters maxOutputs received
   pub side : b ≤ maxSide
   pub windows : m ≤ length received + 1 - n
   pub room : m ≤ length before
 
 -- and what it does
-abbrev pub PlacesDecoded : Coder → List ℕ → List ℕ → ℕ → ℕ → ℕ → List ℕ → List ℕ → Type 0
-PlacesDecoded c flags received b n m before after =
-    Written (λ k v. v ≡ byteOf (meaning (decoded c flags (take n (drop k received)) b))) m before after
+abbrev pub PlacesDecoded : Coder → ℕ → List ℕ → ℕ → ℕ → ℕ → List ℕ → List ℕ → Type 0
+PlacesDecoded c starts received b n m before after =
+    Written (λ k v. v ≡ byteOf (meaning (decoded c starts (take n (drop k received)) b))) m before after

@@ -7,6 +7,7 @@ use lib.Dec.{leb, eqb}
 use Rattle.coder.specs.Refusal.{refuse, first, lettersBelow}
 use Rattle.coder.specs.Limits.{maxSide}
 use Rattle.coder.specs.File.{fileRefusal, outputsOf}
+use Rattle.filling.specs.Table.{maxTable}
 use Rattle.values.specs.Window.{size}
 use Rattle.values.specs.declared.Window.{Window}
 
@@ -40,10 +41,6 @@ stringRefusal f w received fits =
 -- The table's size: O to the power b + 1 + a ("Decoding", last sentence).
 abbrev pub tableSize : ℕ → Window → ℕ
 tableSize o w = o ^ size w
-
--- The most bytes that a table may have (refusal 10).
-abbrev pub maxTable : ℕ
-maxTable = 65536
 
 -- A table: then 10 and 11.
 unfoldable pub tableRefusal : List ℕ → Window → Bool → ℕ

@@ -6,8 +6,8 @@ use mathlib.Core.List.{List}
 use Rattle.coder.specs.File.{settingOf}
 use Rattle.coder.specs.Refusal.{upon}
 use Rattle.values.specs.declared.Window.{Window}
-use Rattle.pass.specs.Answer.{Right}
-use Rattle.pass.specs.declared.Answer.{Answer}
+use Rattle.fitting.specs.Answer.{Right}
+use Rattle.fitting.specs.declared.Answer.{Answer}
 use Rattle.decoder.specs.Refusal.{windowRefusal}
 use Rattle.decoder.specs.declared.WindowResult.{WindowResult}
 use Rattle.decoder.specs.declared.WindowResult.the-variants.{Refused, Answered}

@@ -11,7 +11,7 @@ pub mod inner; // inner.rt: what the crates above call on checked bytes; no publ
 // The refusal's number, or the answer: the letter that alone fits, none, or several.
 pub enum WindowResult {
     Refused(usize),
-    Answered(pass::Answer),
+    Answered(fitting::Answer),
 }
 
 // The refusal's number, or how many bytes were written.

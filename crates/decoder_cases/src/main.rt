@@ -31,14 +31,14 @@ fn window(label: &[u8], file: &[u8], before: usize, after: usize, received: &[u8
             number(k);
         }
         decoder::WindowResult::Answered(v) => match v {
-            pass::Answer::Letter(x) => {
+            fitting::Answer::Letter(x) => {
                 say(b": letter");
                 number(wide(x));
             }
-            pass::Answer::None => {
+            fitting::Answer::None => {
                 say(b": none");
             }
-            pass::Answer::Several => {
+            fitting::Answer::Several => {
                 say(b": several");
             }
         },

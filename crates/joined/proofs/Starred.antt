@@ -20,15 +20,16 @@ use Rattle.coder.proofs.Accepted.{accepted}
 use Rattle.coder.proofs.Tables.{total}
 use Rattle.chains.specs.Chain.{isEntry, hasKey, over}
 use Rattle.values.specs.Window.{window, size}
-use Rattle.pass.specs.Answer.{meaning}
-use Rattle.pass.specs.Pass.{union, given, add, added, pass, unionOf, answerOf, decoded}
-use Rattle.pass.specs.declared.Answer.{Answer}
-use Rattle.pass.specs.declared.Answer.the-variants.{Letter, None, Several}
-use Rattle.pass.proofs.Meaning.{right-byte}
+use Rattle.fitting.specs.Answer.{meaning, answerOf}
+use Rattle.filling.specs.Sets.{contribution, gather, add, added}
+use Rattle.filling.specs.Window.{pass, unionOf, decoded}
+use Rattle.fitting.specs.declared.Answer.{Answer}
+use Rattle.fitting.specs.declared.Answer.the-variants.{Letter, None, Several}
+use Rattle.fitting.proofs.Answers.{right-byte}
 use Rattle.decoder.specs.Refusal.{tableSize}
-use Rattle.decoder.specs.Table.{windowAt}
-use Rattle.decoder.proofs.Decoding.{anyFlags, file-right}
-use Rattle.decoder.proofs.Indices.{length-window}
+use Rattle.filling.specs.Table.{windowAt}
+use Rattle.decoder.proofs.Decoding.{startsOf, file-right}
+use Rattle.filling.proofs.Indices.{length-window}
 use Rattle.joined.specs.Starred as claimed
 use Rattle.joined.specs.Starred.{Claim, Case, Holds, AllHold, AllCases, starred}
 use Rattle.joined.proofs.Tests.{sameList, same-list, allWords, agree, worksTest, later, leastTest, least-test, closesTest, validTest, valid-test, differentTest, different-test}
@@ -59,13 +60,13 @@ same-answer Several None e = absurd (true-false e refl)
 
 -- the byte of the window with index k
 abbrev entryByte : List ℕ → ℕ → ℕ → ℕ → ℕ
-entryByte f n b k = byteOf (meaning (decoded (coderOf f) anyFlags (windowAt (outputsOf f) n k) b))
+entryByte f n b k = byteOf (meaning (decoded (coderOf f) (startsOf f) (windowAt (outputsOf f) n k) b))
 
 unfoldable test : List ℕ → Claim → Bool
 test f (claimed.window b a) = leastTest (machineOf f) b a
 test f (claimed.no-decoder p) = validTest (machineOf f) p
 test f claimed.different-outputs = differentTest (machineOf f)
-test f (claimed.answer b w v) = ltb b (length w) && sameAnswer (decoded (coderOf f) anyFlags w b) v
+test f (claimed.answer b w v) = ltb b (length w) && sameAnswer (decoded (coderOf f) (startsOf f) w b) v
 test f (claimed.table b a bytes) =
     (eqb (length bytes) (tableSize (outputsOf f) (window b a)) && allBelow (length bytes) (λ k. eqb (getD bytes k 0) (entryByte f (size (window b a)) b k)))
 test f (claimed.run s xs os e) = sameList (outs (machineOf f) s xs) os && eqb (end (machineOf f) s xs) e
@@ -84,8 +85,8 @@ claim-holds f z (claimed.no-decoder p) e =
     (v, excludes (settingOf f) p v (any-closed (machineOf f) (total f (accepted f z))))
 claim-holds f z claimed.different-outputs e = different f e
 claim-holds f z (claimed.answer b w v) e =
-    let t = both-true (ltb b (length w)) (sameAnswer (decoded (coderOf f) anyFlags w b) v) e in
-    let q : decoded (coderOf f) anyFlags w b ≡ v = same-answer (decoded (coderOf f) anyFlags w b) v (t .1) in
+    let t = both-true (ltb b (length w)) (sameAnswer (decoded (coderOf f) (startsOf f) w b) v) e in
+    let q : decoded (coderOf f) (startsOf f) w b ≡ v = same-answer (decoded (coderOf f) (startsOf f) w b) v (t .1) in
     subst (λ (v : Answer). Holds f (claimed.answer b w v)) q (file-right f z w b (ltb-true _ _ (t .0)))
 claim-holds f z (claimed.table b a bytes) e =
     let n = size (window b a) in
@@ -94,7 +95,7 @@ claim-holds f z (claimed.table b a bytes) e =
       λ k l.
           let w = windowAt (outputsOf f) n k in
           let q : getD bytes k 0 ≡ entryByte f n b k = eqb-true _ _ (all-at (length bytes) (λ k. eqb (getD bytes k 0) (entryByte f n b k)) (t .1) k l) in
-          rw q (right-byte (settingOf f) w b (decoded (coderOf f) anyFlags w b) (file-right f z w b (omega (arith, length-window (outputsOf f) n k)))),
+          rw q (right-byte (settingOf f) w b (decoded (coderOf f) (startsOf f) w b) (file-right f z w b (omega (arith, length-window (outputsOf f) n k)))),
     )
 claim-holds f z (claimed.run s xs os e′) e =
     let t = both-true (sameList (outs (machineOf f) s xs) os) (eqb (end (machineOf f) s xs) e′) e in
@@ -123,7 +124,7 @@ cases-hold (c ∷ cs) e =
     (z, claims-hold (c .file) z (c .claims) (u .0), cases-hold cs (u .1))
 
 passed : testCases starred ≡ true
-unfolding test leastTest later worksTest agree allWords validTest closesTest differentTest allBelow fileRefusal entriesRefusal inRange within entryInRange machineOf entryOf coderOf table tableAt decoded pass added add given union unionOf answerOf leadingZeros hasKey isEntry over windowAt
+unfolding test leastTest later worksTest agree allWords validTest closesTest differentTest allBelow fileRefusal entriesRefusal inRange within entryInRange machineOf entryOf coderOf table tableAt decoded pass added add contribution gather unionOf answerOf leadingZeros hasKey isEntry over windowAt
 passed = refl
 
 -- every starred case: its file is accepted, and all that is claimed of it holds

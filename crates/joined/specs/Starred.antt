@@ -10,11 +10,11 @@ use Rattle.mealy.specs.Order.{FewestLetters, Least}
 use Rattle.mealy.specs.LoopedPair.{LoopedPair, Valid}
 use Rattle.coder.specs.File.{fileRefusal, statesOf, inputsOf, outputsOf, machineOf, settingOf}
 use Rattle.values.specs.Window as values
-use Rattle.pass.specs.Answer.{Right}
-use Rattle.pass.specs.declared.Answer.{Answer}
-use Rattle.pass.specs.declared.Answer.the-variants.{Letter, None, Several}
+use Rattle.fitting.specs.Answer.{Right}
+use Rattle.fitting.specs.declared.Answer.{Answer}
+use Rattle.fitting.specs.declared.Answer.the-variants.{Letter, None, Several}
 use Rattle.decoder.specs.Refusal.{tableSize}
-use Rattle.decoder.specs.Table.{EntryAt}
+use Rattle.filling.specs.Table.{EntryAt}
 
 pub data Claim : Type 0 where
   -- the least window that works

@@ -13,11 +13,12 @@ use Rattle.coder.specs.Refusal.{upon}
 use Rattle.coder.specs.File.{outputsOf, settingOf}
 use Rattle.values.specs.Window.{size}
 use Rattle.values.specs.declared.Window.{Window}
-use Rattle.pass.specs.Answer.{meaning}
-use Rattle.pass.proofs.Meaning.{right-unique, right-byte-unique}
+use Rattle.fitting.specs.Answer.{meaning}
+use Rattle.fitting.proofs.Answers.{right-unique, right-byte-unique}
 use Rattle.decoder.specs.Refusal.{tableSize}
 use Rattle.decoder.specs.Places.{places, ByteAt}
-use Rattle.decoder.specs.Table.{windowAt, EntryOf}
+use Rattle.decoder.specs.Table.{EntryOf}
+use Rattle.filling.specs.Table.{windowAt}
 use Rattle.decoder.proofs.Determined.{bytes-determined}
 use Rattle.values.specs.declared.LoopedPair as values
 use Rattle.search.specs.Search.{order, Says, PairReport}

@@ -18,8 +18,8 @@ use Rattle.running.specs.declared.RunResult.the-variants.{Refused as RunRefused
 use Rattle.coder.proofs.Refusals.{true-false, both-right, both-false, refuse-none, first-none, answer-refused, upon-refused, upon-done}
 use Rattle.running.proofs.Running.{run-accepted}
 use Rattle.values.specs.declared.Window.{Window}
-use Rattle.pass.specs.Answer.{meaning}
-use Rattle.pass.specs.declared.Answer.{Answer}
+use Rattle.fitting.specs.Answer.{meaning}
+use Rattle.fitting.specs.declared.Answer.{Answer}
 use Rattle.decoder.specs.Refusal.{windowRefusal}
 use Rattle.decoder.specs.Window.{RightOf, AnsweredRight, WindowPromise}
 use Rattle.decoder.specs.Places.{stringRefusalIn, StringPromise}

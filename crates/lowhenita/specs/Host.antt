@@ -15,8 +15,8 @@ use Rattle.coder.specs.Refusal.{answer, upon, Judges}
 use Rattle.coder.specs.File.{outputsOf, machineOf, settingOf}
 use Rattle.running.specs.Run.{runRefusal}
 use Rattle.values.specs.declared.Window.{Window}
-use Rattle.pass.specs.Answer.{meaning}
-use Rattle.pass.specs.declared.Answer.{Answer}
+use Rattle.fitting.specs.Answer.{meaning}
+use Rattle.fitting.specs.declared.Answer.{Answer}
 use Rattle.decoder.specs.Written.{Written}
 use Rattle.decoder.specs.Refusal.{windowRefusal, tableSize}
 use Rattle.decoder.specs.Window.{RightOf}

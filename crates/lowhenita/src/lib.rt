@@ -132,7 +132,7 @@ pub extern "C" fn lowhenita_window(
         decoder::WindowResult::Answered(a) => {
             layout::inner::put_one(
                 result,
-                coder::inner::bytes::number(pass::inner::answer_byte(a)),
+                coder::inner::bytes::number(fitting::inner::answer::answer_byte(a)),
             );
             0
         }

@@ -7,14 +7,16 @@ ghost use Rattle.decoder.specs.Places.{StringAsked, StringGiven};
 ghost use Rattle.decoder.specs.Table.{TableAsked, TableGiven};
 use crate::inner::places::decode_places;
 use crate::inner::sizes;
-use crate::inner::table::fill;
-use crate::inner::table::size;
 use chains::inner::rows_by_key;
 use coder::inner::tables::Coder;
+use filling::inner::table::fill;
+use filling::inner::table::size;
+use filling::inner::window::decode;
+use setting::inner::start_states;
 use values::Window;
 
 // Decodes one window of received letters.
-pub fn window(file: &[u8], w: Window, received: &[u8]) -> pass::Answer
+pub fn window(file: &[u8], w: Window, received: &[u8]) -> fitting::Answer
     requires { ⌜ windowRefusal (now file) w (now received) true ≡ 0 ⌝ }
     ensures { λ r. ⌜ RightOf (now (file .entry)) w (now (received .entry)) r ⌝ }
 {
@@ -22,13 +24,13 @@ pub fn window(file: &[u8], w: Window, received: &[u8]) -> pass::Answer
     let states = c.states;
     let inputs = c.inputs;
     let rows = rows_by_key(&c.output, states, inputs);
-    let flags = [1u8; 16];
-    pass::inner::decode(
+    let starts = start_states(c);
+    decode(
         &c.next,
         &rows.start,
         &rows.entries,
         states,
-        &flags,
+        starts,
         received,
         w.before,
     )
@@ -43,7 +45,7 @@ pub fn string(file: &[u8], w: Window, received: &[u8], output: &mut [u8]) -> usi
     let states = c.states;
     let inputs = c.inputs;
     let rows = rows_by_key(&c.output, states, inputs);
-    let flags = [1u8; 16];
+    let starts = start_states(c);
     let n = sizes::letters(w);
     let count = sizes::places(received.len(), w);
     decode_places(
@@ -51,7 +53,7 @@ pub fn string(file: &[u8], w: Window, received: &[u8], output: &mut [u8]) -> usi
         &rows.start,
         &rows.entries,
         states,
-        &flags,
+        starts,
         received,
         w.before,
         n,
@@ -71,19 +73,18 @@ pub fn table(file: &[u8], w: Window, table: &mut [u8]) -> usize
     let inputs = c.inputs;
     let outputs = c.outputs;
     let rows = rows_by_key(&c.output, states, inputs);
-    let flags = [1u8; 16];
+    let starts = start_states(c);
+    let b = w.before;
     let n = sizes::letters(w);
     let count = size(outputs, n);
-    let v = pass::inner::start_sets(&flags);
     fill(
         &c.next,
         &rows.start,
         &rows.entries,
-        states,
         outputs,
-        &v,
+        starts,
         n,
-        w.before + 1,
+        b,
         &mut table[..count],
     );
     count

@@ -79,7 +79,7 @@ pub fn table(file: &[u8], w: Window, room: usize, others: bool) -> usize
     if k != 0 {
         return k;
     }
-    let m = crate::inner::table::size(byte(file, 5), sizes::letters(w));
+    let m = filling::inner::table::size(byte(file, 5), sizes::letters(w));
     if m == 0 {
         return 10;
     }

@@ -5,12 +5,11 @@ use native.Mathlib.Omega.{arith}
 use lib.ListN.{length}
 use lib.Seq.{length-take-le, length-front}
 use denote.Ref.{now}
-use borrow.Author.Needs.{needs}
 use Rattle.coder.specs.File.{outputsOf}
 use Rattle.decoder.specs.Refusal.{tableSize}
 use Rattle.decoder.proofs.Accepting.{table-accepted}
-use Rattle.decoder.proofs.Sizes.{size-small}
-use Rattle.decoder.proofs.Decoding.{CoderOf, sound-of, outputs-of, keys-of, arrays-of, table-right}
+use Rattle.filling.proofs.Sizes.{size-small}
+use Rattle.decoder.proofs.Decoding.{CoderOf, sound-of, outputs-of, keys-of, rows-of, table-right}
 use Rattle.decoder.proofs.inner.checked.table.Statement.{statement}
 use Rattle.decoder.proofs.inner.checked.table.Tie as tie
 
@@ -27,15 +26,18 @@ coder-of c =
 rows-by-key-requires : tie.Need-rows-by-key-requires
 rows-by-key-requires c κs = keys-of (coder-of (c .before .before))
 
+start-states-requires : tie.Need-start-states-requires
+start-states-requires c κs = sound-of (coder-of (c .before .before .before))
+
 letters-requires : tie.Need-letters-requires
-letters-requires c κs = table-accepted _ _ _ (c .before .before .before .before .before .before .pre .accepted) .sides .small
+letters-requires c κs = table-accepted _ _ _ (c .before .before .before .before .before .before .before .pre .accepted) .sides .small
 
 size-requires : tie.Need-size-requires
-size-requires c κs = let s = sound-of (coder-of (c .before .before .before .before)) in (s .outputs-low, s .outputs-high)
+size-requires c κs = let s = sound-of (coder-of (c .before .before .before .before .before)) in (s .outputs-low, s .outputs-high)
 
 -- the place after the call of `from_checked`, from that after the call of `size`
 abbrev made : tie.After-size → tie.After-from-checked
-made c = c .before .before .before .before .before
+made c = c .before .before .before .before .before .before
 
 count-is :
     (c : tie.After-size) →
@@ -47,34 +49,30 @@ count-is c =
 room : (c : tie.After-size) → c .size .result ≤ length (now (made c .before .before .before .args .table))
 room c = omega (arith, count-is c, made c .before .before .before .pre .room)
 
-start-sets-requires : tie.Need-start-sets-requires
-start-sets-requires c κs = search needs
-
--- the place after the call of `size`, from the calls after it
-abbrev sized : tie.After-struct-known → tie.After-size
-sized c = c .before .before .before .before .before .before .before .before .before
-
-add-fill : tie.Need-add-fill
-add-fill c = omega (arith, table-accepted _ _ _ (made (sized c) .before .before .before .pre .accepted) .sides .small)
+-- the place after the call of `size`, from the call of `fill`
+abbrev sized : tie.After-fill-arg4 → tie.After-size
+sized c = c .before .before .before .before .before .before
 
 slice-relend-prefix-fill : tie.Need-slice-relend-prefix-fill
-slice-relend-prefix-fill c = room (sized c)
+slice-relend-prefix-fill c = room (c .before .before .before .before .before)
 
 slice-aggregate-fill : tie.Need-slice-aggregate-fill
 slice-aggregate-fill c =
-    let k = sized (c .before) in
+    let k = sized c in
     sym (length-take-le (k .size .result) (now (made k .before .before .before .args .table)) (room k))
 
 fill-requires : tie.Need-fill-requires
 fill-requires c κs =
-    let k = sized (c .before) in
+    let k = sized c in
     let h = coder-of (made k) in
     let s = sound-of h in
     record {
-      arrays = record { coder = _; is = arrays-of h (k .before .before .rows-by-key .ensures) };
-      states-high = s .states-high;
+      coder = _;
+      rows = rows-of h (k .before .before .before .rows-by-key .ensures);
+      next-is = refl;
       outputs-low = s .outputs-low;
       outputs-high = s .outputs-high;
+      inside = omega (arith, k .before .letters .ensures);
       size =
           length-take-le (k .size .result) (now (made k .before .before .before .args .table)) (room k)
           ∙ count-is k ∙ sym (ap₂ _^_ (outputs-of h) (k .before .letters .ensures));
@@ -82,20 +80,20 @@ fill-requires c κs =
 
 same-length : tie.Need-same-length
 same-length c =
-    let k = sized (c .before .before .before .before) in
-    length-front (now (made k .before .before .before .args .table)) (c .before .before .fill .last .1 .1 .1 .1 .1 .1 .1 .1 .0)
-    (k .size .result) (c .before .before .fill .kept .1 .1 .1 .1 .1 .1 .1 .1 .0)
+    let k = sized (c .before .before .before) in
+    length-front (now (made k .before .before .before .args .table)) (c .before .before .fill .last .1 .1 .1 .1 .1 .1 .1 .0)
+    (k .size .result) (c .before .before .fill .kept .1 .1 .1 .1 .1 .1 .1 .0)
 
 returns : tie.Need-returns
 returns c =
-    let k = sized (c .before .before .before .before) in
+    let k = sized (c .before .before .before) in
     let h = coder-of (made k) in
     record {
       counted = count-is k;
       bytes =
           table-right h (made k .before .before .before .args .w) (outputs-of h) (k .before .letters .ensures) (count-is k) (room k)
-          (c .before .before .before .before .before .before .before .before .before .before .before .start-sets .ensures)
-          (c .before .before .fill .ensures _ (arrays-of h (k .before .before .rows-by-key .ensures)) refl);
+          (c .before .before .fill .ensures _ (rows-of h (k .before .before .before .rows-by-key .ensures)) refl
+          (k .before .before .start-states .ensures));
     }
 
 pub table-spec : {M : Type 1} → statement M
@@ -104,10 +102,9 @@ table-spec =
     (tie.spec
     from-checked-requires
     rows-by-key-requires
+    start-states-requires
     letters-requires
     size-requires
-    start-sets-requires
-    add-fill
     slice-relend-prefix-fill
     slice-aggregate-fill
     fill-requires

@@ -4,9 +4,9 @@ use Prim.Native.Nat.{_+_, _≤_, _-_}
 use lib.ListN.{length}
 use Rattle.mealy.specs.Answer.{byteOf}
 use Rattle.mealy.proofs.ComesBack.{letters-take, letters-drop}
-use Rattle.pass.specs.Answer.{meaning}
+use Rattle.fitting.specs.Answer.{meaning}
 use Rattle.coder.specs.declared.inner.tables.Coder.{Coder}
-use Rattle.pass.specs.Pass.{ArraysOf}
+use Rattle.filling.specs.Sets.{RowsOf}
 use Rattle.decoder.specs.Places.{PlacesDecoded}
 use Rattle.decoder.proofs.Writing.{written-none, written-more}
 use borrow.Author.Needs.{needs}
@@ -15,14 +15,14 @@ use Rattle.decoder.proofs.inner.places.decode_places.Statement.{stateme
 use Rattle.decoder.proofs.inner.places.decode_places.Tie as tie
 
 abbrev Inv-loop : tie.InvT-loop
-Inv-loop next start entries states flags received b n m output₀ k₀ output k =
-    (k ≤ m) × (length output ≡ length output₀) × ((c : Coder) → ArraysOf c next start entries → states ≡ c .states → PlacesDecoded c flags received b n k output₀ output)
+Inv-loop next start entries states starts received b n m output₀ k₀ output k =
+    (k ≤ m) × (length output ≡ length output₀) × ((c : Coder) → RowsOf c start entries → next ≡ c .next → states ≡ c .states → PlacesDecoded c starts received b n k output₀ output)
 
 abbrev μ-loop : tie.MeasureT-loop
-μ-loop next start entries states flags received b n m output₀ k₀ output k = m - k
+μ-loop next start entries states starts received b n m output₀ k₀ output k = m - k
 
 loop-holds : tie.Need-loop-holds Inv-loop μ-loop
-loop-holds c = (search needs, refl, λ d a e. written-none _ _)
+loop-holds c = (search needs, refl, λ d a x e. written-none _ _)
 
 add-end : tie.Need-add-end Inv-loop μ-loop
 add-end c = search needs
@@ -39,7 +39,7 @@ part-decode-end c = search needs
 decode-requires : tie.Need-decode-requires Inv-loop μ-loop
 decode-requires c κs =
     let p = c .before .before .before .before .before .pre in
-    (p .arrays, (p .states-high, search (letters-take, letters-drop, p .letters)), p .side)
+    (p .arrays, search (letters-take, letters-drop, p .letters), p .side)
 
 answer-byte-requires : tie.Need-answer-byte-requires Inv-loop μ-loop
 answer-byte-requires c κs = search needs
@@ -59,15 +59,15 @@ loop-again c = let p = c .before .before .before .before .before .before .before
     let n : i .k + p .n - i .k ≡ p .n = omega arith in (
       search needs,
       search needs,
-      λ d a e. written-more (i .inv .2 d a e) (omega (arith, c .before .before .before .before .before .before .before .pre, i .inv, c .before .before .before .loop-test))
-          (c .answer-byte .ensures ∙ ap (λ x. byteOf (meaning x)) (c .before .decode .ensures d a e) ∙ rw n),
+      λ d a x e. written-more (i .inv .2 d a x e) (omega (arith, c .before .before .before .before .before .before .before .pre, i .inv, c .before .before .before .loop-test))
+          (c .answer-byte .ensures ∙ ap (λ y. byteOf (meaning y)) (c .before .decode .ensures d a x e) ∙ rw n),
     )
 
 same-length : tie.Need-same-length Inv-loop μ-loop
 same-length c = search needs
 
 returns : tie.Need-returns Inv-loop μ-loop
-returns c = λ d a e. let q : c .before .loop .k ≡ c .before .before .before .before .args .m = omega arith in rw q at (c .before .loop .inv .2 d a e)
+returns c = λ d a x e. let q : c .before .loop .k ≡ c .before .before .before .before .args .m = omega arith in rw q at (c .before .loop .inv .2 d a x e)
 
 pub decode-places-spec : {M : Type 1} → statement M
 decode-places-spec =

@@ -1,0 +1,8 @@
+-- Laws of the decoder table.
+pub mod Steps
+pub mod Sets
+pub mod Runs
+pub mod Indices
+pub mod Sizes
+pub mod Filling
+pub mod Window

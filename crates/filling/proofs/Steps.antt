@@ -1,0 +1,115 @@
+-- The loops over the states and over the entries of a row, one turn at a time.
+use mathlib.Core.Path.{_≡_, refl, sym, _∙_}
+use mathlib.Core.Bool.{true}
+use mathlib.Core.List.{List}
+use Prim.Native.Nat.{ℕ, suc, _+_, _/_, _%_, _^_, _≤_, _<_}
+use native.Mathlib.Omega.{arith}
+use lib.ListN.{length, getD, set, replicate, length-set}
+use lib.Seq.{getD-set-same, getD-set-other, ext-getD}
+use borrow.Author.Count.{below-more}
+use Rattle.coder.specs.Table.{table}
+use Rattle.coder.specs.declared.inner.tables.Coder.{Coder}
+use Rattle.coder.proofs.Fill.{length-table, getD-table}
+use Rattle.chains.specs.Chain.{lastBelow, over}
+use Rattle.chains.specs.Rows.{ahead}
+use Rattle.chains.proofs.Chains.{last-bound, last-passes, over-last, over-step}
+use Rattle.chains.proofs.Rows.{ahead-in, ahead-end}
+use Rattle.filling.specs.Sets.{hasOutput, startSets, RowsAsked, RowsOf}
+
+-- ---- the sets before the first letter
+
+-- the set of state s
+abbrev pub startSet : ℕ → ℕ → ℕ
+startSet starts s = starts / 2 ^ s % 2
+
+-- the first s are made
+pub record Started (starts s : ℕ) (v : List ℕ) : Type 0 where
+  pub size : length v ≡ 16
+  pub is : (j : ℕ) → j < s → getD v j 0 ≡ startSet starts j
+
+module _ {starts : ℕ} where
+  pub started-none : Started starts 0 (replicate 16 0)
+  started-none = record { size = refl; is = λ j l. absurd (omega arith) }
+
+  pub started-more : {s : ℕ} {v : List ℕ} → Started starts s v → s < 16 → Started starts (s + 1) (set v s (startSet starts s))
+  started-more {s} {v} a l =
+      let z = a .size in
+      let u = startSet starts s in
+      record {
+        size = length-set v s u ∙ a .size;
+        is =
+            below-more (λ j. getD (set v s u) j 0 ≡ startSet starts j) s
+            (λ j q. getD-set-other v s j u 0 (λ (y : j ≡ s). omega arith) ∙ a .is j q)
+            (getD-set-same v s u 0 (omega arith));
+      }
+
+  pub started-all : {s : ℕ} {v : List ℕ} → Started starts s v → 16 ≤ s → v ≡ startSets starts
+  started-all {s} {v} a l =
+      let g = startSet starts in
+      let z = a .size in
+      ext-getD 0 v (table 16 g) (a .size ∙ sym (length-table 16 g))
+      (λ j m. a .is j (omega arith) ∙ sym (getD-table 16 g j (omega arith)))
+
+-- ---- the entries of a row
+
+-- the number of the entry at place j of the row of o, counted from 1; 0 at the row's end
+abbrev pub numberAt : List ℕ → List ℕ → ℕ → ℕ → ℕ
+numberAt start entries o j = ahead entries (getD start (o + 1) 0) 0 j
+
+-- The walk along the row of o, which takes each entry by f, has come to place j, from `from` to `to`.
+pub record Walked {A : Type 0} (start entries : List ℕ) (o : ℕ) (f : A → ℕ → A) (from to : A) (j : ℕ) : Type 0 where
+  pub within : getD start o 0 ≤ j
+  pub bound : numberAt start entries o j ≤ 256
+  pub entry :
+      (c : Coder) → RowsOf c start entries → (p : ℕ) → numberAt start entries o j ≡ suc p → hasOutput c o p ≡ true
+  pub rest :
+      (c : Coder) → RowsOf c start entries → over (hasOutput c o) f to (numberAt start entries o j) ≡ over (hasOutput c o) f from 256
+
+module _ {start entries : List ℕ} where
+  pub start-high : RowsAsked start entries → (k : ℕ) → k ≤ 64 → getD start k 0 ≤ 256
+  start-high a k l = a .is .rowed .bound k l
+
+  pub walked-none :
+      {A : Type 0} {f : A → ℕ → A} {from : A} {o : ℕ} → RowsAsked start entries → o < 64 →
+      Walked start entries o f from from (getD start o 0)
+  walked-none {f = f} {from = from} {o = o} a l =
+      record {
+        within = omega arith;
+        bound = rw (a .is .rowed .row o l .first) (last-bound (hasOutput (a .coder) o) 256);
+        entry = λ c b p e. last-passes (hasOutput c o) 256 p (sym (b .rowed .row o l .first) ∙ e);
+        rest = λ c b. rw (b .rowed .row o l .first) (sym (over-last (hasOutput c o) f from 256));
+      }
+
+  module _ {A : Type 0} {f : A → ℕ → A} {from to : A} {o j : ℕ} (w : Walked start entries o f from to j)
+      (l : j < getD start (o + 1) 0) where
+    number-is : numberAt start entries o j ≡ suc (getD entries j 0)
+    number-is = ahead-in entries (getD start (o + 1) 0) 0 j l
+
+    pub entry-high : getD entries j 0 < 256
+    entry-high = omega (arith, w .bound, number-is)
+
+    pub walked-more :
+        {to′ : A} → RowsAsked start entries → o < 64 → to′ ≡ f to (getD entries j 0) →
+        Walked start entries o f from to′ (j + 1)
+    walked-more {to′} a k e =
+        let p = getD entries j 0 in
+        record {
+          within = omega (arith, w .within);
+          bound = rw (after (a .is)) (omega (arith, entry-high, last-bound (hasOutput (a .coder) o) p));
+          entry = λ c b r g. last-passes (hasOutput c o) p r (sym (after b) ∙ g);
+          rest = λ c b.
+              rw (after b, e)
+              (sym (over-last (hasOutput c o) f (f to p) p)
+              ∙ sym (over-step (hasOutput c o) f to p (w .entry c b p number-is)) ∙ rw (← number-is) (w .rest c b));
+        }
+      where
+        after :
+            {c : Coder} → RowsOf c start entries →
+            numberAt start entries o (j + 1) ≡ lastBelow (hasOutput c o) (getD entries j 0)
+        after b = b .rowed .row o k .more j (w .within) l
+
+  pub walked-all :
+      {A : Type 0} {f : A → ℕ → A} {from to : A} {o j : ℕ} → Walked start entries o f from to j →
+      getD start (o + 1) 0 ≤ j → (c : Coder) → RowsOf c start entries → to ≡ over (hasOutput c o) f from 256
+  unfolding over
+  walked-all {o = o} {j = j} w l c a = rw (ahead-end entries (getD start (o + 1) 0) 0 j l) at (w .rest c a)

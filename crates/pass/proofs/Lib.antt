@@ -1,5 +1,0 @@
--- The laws of the pass over a window.
-pub mod Steps
-pub mod Words
-pub mod Sets
-pub mod Meaning

@@ -1,9 +1,0 @@
-// One pass over the letters of a window: the decoder's core, on the tables of a checked coder.
-pub mod inner; // inner.rt: what the crates above call; no public calls
-
-// What the letters of one window stand for: the letter that alone fits, none, or several.
-pub enum Answer {
-    Letter(u8),
-    None,
-    Several,
-}
