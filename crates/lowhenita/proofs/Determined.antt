@@ -5,38 +5,56 @@ use mathlib.Core.Bool.{Bool}
 use mathlib.Core.List.{List, [], _∷_}
 use mathlib.Core.Logic.{_⊎_, inl, inr}
 use Prim.Native.Nat.{ℕ, zero, suc}
-use lib.ListN.{length, take, drop}
-use Rattle.mealy.specs.Answer.{byteOf}
+use lib.ListN.{take, drop}
 use Rattle.mealy.specs.LoopedPair.{LoopedPair}
 use Rattle.mealy.proofs.LeastWindows.{least-unique}
 use Rattle.coder.specs.Refusal.{upon}
 use Rattle.coder.specs.File.{outputsOf, settingOf}
 use Rattle.values.specs.Window.{size}
 use Rattle.values.specs.declared.Window.{Window}
-use Rattle.fitting.specs.Answer.{meaning}
-use Rattle.fitting.proofs.Answers.{right-unique, right-byte-unique}
-use Rattle.decoder.specs.Refusal.{tableSize}
-use Rattle.decoder.specs.Places.{places, ByteAt}
-use Rattle.decoder.specs.Table.{EntryOf}
-use Rattle.filling.specs.Table.{windowAt}
-use Rattle.decoder.proofs.Determined.{bytes-determined}
 use Rattle.values.specs.declared.LoopedPair as values
+use Rattle.fitting.proofs.Answers.{right-byte-unique}
+use Rattle.decoder.specs.Table.{windowAt}
+use Rattle.decoder.proofs.Writing.{written-unique}
 use Rattle.search.specs.Search.{order, Says, PairReport}
 use Rattle.search.proofs.Determined.{is-order}
 use Rattle.search.specs.declared.Verdict.{Verdict}
 use Rattle.search.specs.declared.Verdict.the-variants.{Least, NoDecoder}
 use Rattle.checker.proofs.Judging.{judges-same}
 use Rattle.layout.specs.Layout.{withFields, verdictFields, numberOf}
-use Rattle.lowhenita.specs.Host.{RunHosted, BothStay, VerdictGiven, searchNumber, SearchHosted, decodeNumber, DecodeHosted, JudgementGiven, checkNumber, CheckHosted, AnswerGiven, windowNumber, WindowHosted, tableNumber, TableHosted}
+use Rattle.lowhenita.specs.Host.{Hosted, BothStay, RunHosted, SearchHosted, BytesGiven, DecodeHosted, TableHosted, CheckHosted, WindowHosted}
+
+-- ---- any call: two numbers, and two outcomes of which the given laws say that they are the same
+
+hosted-determined :
+    {k r q : ℕ} {Stays Given Stays₂ Given₂ Same : Type 0} → (Stays → Stays₂ → Same) → (Given → Given₂ → Same) →
+    Hosted k r Stays Given → Hosted k q Stays₂ Given₂ → (r ≡ q) × Same
+hosted-determined {k} {r} {q} {Stays} {Given} {Stays₂} {Given₂} {Same} stay give h h₂ =
+    (h .number ∙ sym (h₂ .number), go k (h .outcome) (h₂ .outcome))
+  where
+    go : (n : ℕ) → upon n (λ j. Stays) Given → upon n (λ j. Stays₂) Given₂ → Same
+    go zero g g₂ = give g g₂
+    go (suc n) g g₂ = stay g g₂
+
+module _ {before result after after₂ result′ result₂ : List ℕ} where
+  both-stay :
+      BothStay before result after result′ → BothStay before result after₂ result₂ → (after ≡ after₂) × (result′ ≡ result₂)
+  both-stay g g₂ = (g .bytes ∙ sym (g₂ .bytes), g .fields ∙ sym (g₂ .fields))
+
+  -- n bytes of which each is determined
+  bytes-given :
+      {n : ℕ} {Q : ℕ → ℕ → Type 0} → ((j x y : ℕ) → Q j x → Q j y → x ≡ y) → BytesGiven n Q before result after result′ →
+      BytesGiven n Q before result after₂ result₂ → (after ≡ after₂) × (result′ ≡ result₂)
+  bytes-given u g g₂ = (written-unique u (g .bytes) (g₂ .bytes), g .fields ∙ sym (g₂ .fields))
 
 -- ---- the coder run
 
 pub run-determined :
     (f : List ℕ) (s : ℕ) (xs before result : List ℕ) (r q : ℕ) (after after₂ result′ result₂ : List ℕ) →
     RunHosted f s xs before result r after result′ → RunHosted f s xs before result q after₂ result₂ →
-    (r ≡ q) × (after ≡ after₂) × (result′ ≡ result₂)
-run-determined f s xs before result r q after after₂ result′ result₂ h k =
-    (h .number ∙ sym (k .number), h .bytes ∙ sym (k .bytes), h .fields ∙ sym (k .fields))
+    (r ≡ q) × ((after ≡ after₂) × (result′ ≡ result₂))
+run-determined f s xs before result r q after after₂ result′ result₂ =
+    hosted-determined both-stay (λ g g₂. (g .bytes ∙ sym (g₂ .bytes), g .fields ∙ sym (g₂ .fields)))
 
 -- ---- the window search
 
@@ -64,79 +82,51 @@ module _ (f before result after after₂ result′ result₂ : List ℕ) where
   verdicts (NoDecoder w) (NoDecoder x) p q d e =
       inr (record { pair = w; report = p; fields = d }, record { pair = x; report = q; fields = e })
 
-  outcomes :
-      (n : ℕ) → upon n (λ j. BothStay before result after result′) (VerdictGiven (settingOf f) before result after result′) →
-      upon n (λ j. BothStay before result after₂ result₂) (VerdictGiven (settingOf f) before result after₂ result₂) →
-      SameButPair
-  outcomes zero h k = verdicts (h .verdict) (k .verdict) (h .says) (k .says) (h .fields) (k .fields)
-  outcomes (suc n) h k = inl (h .bytes ∙ sym (k .bytes), h .fields ∙ sym (k .fields))
-
   pub search-determined :
       (r q : ℕ) → SearchHosted f before result r after result′ → SearchHosted f before result q after₂ result₂ →
       (r ≡ q) × SameButPair
-  search-determined r q h k =
-      (h .number ∙ sym (k .number), outcomes (searchNumber f before result) (h .outcome) (k .outcome))
+  search-determined r q =
+      hosted-determined (λ g g₂. inl (both-stay g g₂))
+      (λ g g₂. verdicts (g .verdict) (g₂ .verdict) (g .says) (g₂ .says) (g .fields) (g₂ .fields))
 
--- ---- the string decoder
+-- ---- the string decoder and the decoder table
 
 pub decode-determined :
     (f : List ℕ) (w : Window) (received before result : List ℕ) (r q : ℕ) (after after₂ result′ result₂ : List ℕ) →
     DecodeHosted f w received before result r after result′ → DecodeHosted f w received before result q after₂ result₂ →
-    (r ≡ q) × (after ≡ after₂) × (result′ ≡ result₂)
-decode-determined f w received before result r q after after₂ result′ result₂ h k = (
-  h .number ∙ sym (k .number),
-  bytes-determined (ByteAt (settingOf f) received w) (places (length received) w) before after after₂
-      (decodeNumber f w received before result)
-      (λ j x y. right-byte-unique (settingOf f) (take (size w) (drop j received)) (w .before)) (h .bytes) (k .bytes),
-  h .fields ∙ sym (k .fields),
-)
-
--- ---- the decoder table
+    (r ≡ q) × ((after ≡ after₂) × (result′ ≡ result₂))
+decode-determined f w received before result r q after after₂ result′ result₂ =
+    hosted-determined both-stay
+    (bytes-given (λ j x y. right-byte-unique (settingOf f) (take (size w) (drop j received)) (w .before)))
 
 pub table-determined :
     (f : List ℕ) (w : Window) (before result : List ℕ) (r q : ℕ) (after after₂ result′ result₂ : List ℕ) →
     TableHosted f w before result r after result′ → TableHosted f w before result q after₂ result₂ →
-    (r ≡ q) × (after ≡ after₂) × (result′ ≡ result₂)
-table-determined f w before result r q after after₂ result′ result₂ h k = (
-  h .number ∙ sym (k .number),
-  bytes-determined (EntryOf f w) (tableSize (outputsOf f) w) before after after₂
-      (tableNumber f w before result)
-      (λ j x y. right-byte-unique (settingOf f) (windowAt (outputsOf f) (size w) j) (w .before)) (h .bytes) (k .bytes),
-  h .fields ∙ sym (k .fields),
-)
+    (r ≡ q) × ((after ≡ after₂) × (result′ ≡ result₂))
+table-determined f w before result r q after after₂ result′ result₂ =
+    hosted-determined both-stay
+    (bytes-given (λ j x y. right-byte-unique (settingOf f) (windowAt (outputsOf f) (size w) j) (w .before)))
 
 -- ---- the checker of looped pairs
 
-module _ (f : List ℕ) (p : LoopedPair) (result result′ result₂ : List ℕ) where
-  judgements :
-      (n : ℕ) → upon n (λ j. result′ ≡ result) (JudgementGiven f p result result′) →
-      upon n (λ j. result₂ ≡ result) (JudgementGiven f p result result₂) → result′ ≡ result₂
-  judgements zero h k =
-      h .fields
-      ∙ ap (λ (v : Bool). withFields result (numberOf v ∷ [])) (judges-same _ _ (h .judges) (k .judges))
-      ∙ sym (k .fields)
-  judgements (suc n) h k = h ∙ sym k
-
-  pub check-determined :
-      (r q : ℕ) → CheckHosted f p result r result′ → CheckHosted f p result q result₂ → (r ≡ q) × (result′ ≡ result₂)
-  check-determined r q h k =
-      (h .number ∙ sym (k .number), judgements (checkNumber f p result) (h .outcome) (k .outcome))
+pub check-determined :
+    (f : List ℕ) (p : LoopedPair) (result result′ result₂ : List ℕ) (r q : ℕ) → CheckHosted f p result r result′ →
+    CheckHosted f p result q result₂ → (r ≡ q) × (result′ ≡ result₂)
+check-determined f p result result′ result₂ r q =
+    hosted-determined (λ g g₂. g ∙ sym g₂)
+    (λ g g₂.
+    g .fields
+    ∙ ap (λ (v : Bool). withFields result (numberOf v ∷ [])) (judges-same _ _ (g .judges) (g₂ .judges))
+    ∙ sym (g₂ .fields))
 
 -- ---- one window
 
-module _ (f : List ℕ) (w : Window) (received result result′ result₂ : List ℕ) where
-  answers :
-      (n : ℕ) → upon n (λ j. result′ ≡ result) (AnswerGiven f w received result result′) →
-      upon n (λ j. result₂ ≡ result) (AnswerGiven f w received result result₂) → result′ ≡ result₂
-  answers zero h k =
-      h .fields
-      ∙ ap (λ v. withFields result (byteOf (meaning v) ∷ []))
-      (right-unique (settingOf f) received (w .before) (h .answer) (k .answer) (h .right) (k .right))
-      ∙ sym (k .fields)
-  answers (suc n) h k = h ∙ sym k
-
-  pub window-determined :
-      (r q : ℕ) → WindowHosted f w received result r result′ → WindowHosted f w received result q result₂ →
-      (r ≡ q) × (result′ ≡ result₂)
-  window-determined r q h k =
-      (h .number ∙ sym (k .number), answers (windowNumber f w received result) (h .outcome) (k .outcome))
+pub window-determined :
+    (f : List ℕ) (w : Window) (received result result′ result₂ : List ℕ) (r q : ℕ) → WindowHosted f w received result r result′ →
+    WindowHosted f w received result q result₂ → (r ≡ q) × (result′ ≡ result₂)
+window-determined f w received result result′ result₂ r q =
+    hosted-determined (λ g g₂. g ∙ sym g₂)
+    (λ g g₂.
+    g .fields
+    ∙ ap (λ (x : ℕ). withFields result (x ∷ [])) (right-byte-unique (settingOf f) received (w .before) (g .right) (g₂ .right))
+    ∙ sym (g₂ .fields))

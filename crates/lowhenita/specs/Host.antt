@@ -1,6 +1,7 @@
 -- The promises of the calls from C ("What the part does", on calls from C: the refusal's number or 0 is returned, and the results go to
 -- a buffer of their own, 64 bytes or more). Each says by the definitions of the library's own call what the number, every other lent
--- buffer and the result buffer are; upon refusal all buffers stay.
+-- buffer and the result buffer are; upon refusal all buffers stay. In each, `before` and `result` are the lent buffers at the call,
+-- `after` and `result′` the same when it returns, and r is what it returns.
 use Prim.Native.Nat.{ℕ}
 use mathlib.Core.Path.{_≡_}
 use mathlib.Core.Bool.{Bool, _&&_}
@@ -9,17 +10,14 @@ use lib.ListN.{length, drop}
 use lib.Dec.{leb}
 use Rattle.mealy.specs.Machine.{outs, end}
 use Rattle.mealy.specs.Setting.{Setting}
-use Rattle.mealy.specs.Answer.{byteOf}
 use Rattle.mealy.specs.LoopedPair.{LoopedPair, Valid}
-use Rattle.coder.specs.Refusal.{answer, upon, Judges}
+use Rattle.coder.specs.Refusal.{upon, Judges}
 use Rattle.coder.specs.File.{outputsOf, machineOf, settingOf}
 use Rattle.running.specs.Run.{runRefusal}
 use Rattle.values.specs.declared.Window.{Window}
-use Rattle.fitting.specs.Answer.{meaning}
-use Rattle.fitting.specs.declared.Answer.{Answer}
+use Rattle.fitting.specs.Answer.{RightByte}
 use Rattle.decoder.specs.Written.{Written}
 use Rattle.decoder.specs.Refusal.{windowRefusal, tableSize}
-use Rattle.decoder.specs.Window.{RightOf}
 use Rattle.decoder.specs.Places.{places, stringRefusalIn, ByteAt}
 use Rattle.decoder.specs.Table.{tableRefusalIn, EntryOf}
 use Rattle.search.specs.Search.{searchRefusal, wanted, order, Says}
@@ -31,29 +29,35 @@ use Rattle.layout.specs.Layout.{withFields, verdictFields, numberOf}
 abbrev pub roomy : List ℕ → Bool
 roomy result = leb 64 (length result)
 
--- ---- the coder run
-
-abbrev pub runNumber : List ℕ → ℕ → List ℕ → List ℕ → List ℕ → ℕ
-runNumber f s xs before result = runRefusal f s xs (leb (length xs) (length before) && roomy result)
-
--- Demand 2, first sentence, for a host: an output letter for each input letter; field 0 is the number of letters written and field 1 the
--- end state ("Numbers of refusal", the sentence on counts).
-pub record RunHosted (f : List ℕ) (s : ℕ) (xs before result : List ℕ) (r : ℕ) (after result′ : List ℕ) : Type 0 where
-  pub number : r ≡ runNumber f s xs before result
-  pub bytes : after ≡ answer (runNumber f s xs before result) (λ k. before) (outs (machineOf f) s xs ++ drop (length xs) before)
-  pub fields :
-      result′ ≡
-      answer (runNumber f s xs before result) (λ k. result) (withFields result (length xs ∷ end (machineOf f) s xs ∷ []))
-
--- ---- the window search
-
-abbrev pub searchNumber : List ℕ → List ℕ → List ℕ → ℕ
-searchNumber f before result = searchRefusal f (leb wanted (length before) && roomy result)
+-- What a call whose refusal is k returns and leaves: the number k; Stays where that is a refusal, and Given where it is 0.
+pub record Hosted (k r : ℕ) (Stays Given : Type 0) : Type 0 where
+  pub number : r ≡ k
+  pub outcome : upon k (λ j. Stays) Given
 
 -- the lent buffers as they were
 pub record BothStay (before result after result′ : List ℕ) : Type 0 where
   pub bytes : after ≡ before
   pub fields : result′ ≡ result
+
+-- ---- the coder run
+
+abbrev pub runNumber : List ℕ → ℕ → List ℕ → List ℕ → List ℕ → ℕ
+runNumber f s xs before result = runRefusal f s xs (leb (length xs) (length before) && roomy result)
+
+-- an output letter for each input letter; field 0 is the number of letters written and field 1 the end state
+pub record RunGiven (f : List ℕ) (s : ℕ) (xs before result after result′ : List ℕ) : Type 0 where
+  pub bytes : after ≡ outs (machineOf f) s xs ++ drop (length xs) before
+  pub fields : result′ ≡ withFields result (length xs ∷ end (machineOf f) s xs ∷ [])
+
+-- Demand 2, first sentence, for a host ("Numbers of refusal", the sentence on counts).
+abbrev pub RunHosted : List ℕ → ℕ → List ℕ → List ℕ → List ℕ → ℕ → List ℕ → List ℕ → Type 0
+RunHosted f s xs before result r after result′ =
+    Hosted (runNumber f s xs before result) r (BothStay before result after result′) (RunGiven f s xs before result after result′)
+
+-- ---- the window search
+
+abbrev pub searchNumber : List ℕ → List ℕ → List ℕ → ℕ
+searchNumber f before result = searchRefusal f (leb wanted (length before) && roomy result)
 
 -- There is a verdict that says what the search's own verdict says on these buffers, and the fields are its layout.
 pub record VerdictGiven (S : Setting) (before result after result′ : List ℕ) : Type 0 where
@@ -64,27 +68,35 @@ pub record VerdictGiven (S : Setting) (before result after result′ : List ℕ)
 -- Demand 3 for a host ("Coders and runs", last sentence: the call hands on the search's answer): field 0 is 0 for a window, whose sides
 -- are fields 1 and 2, and 1 for a looped pair, whose start states and lengths are fields 1 to 6, and whose letters lie in the lent
 -- buffer. Which looped pair is given is left open, here as in the search; all else is determined.
-pub record SearchHosted (f before result : List ℕ) (r : ℕ) (after result′ : List ℕ) : Type 0 where
-  pub number : r ≡ searchNumber f before result
-  pub outcome :
-      upon (searchNumber f before result) (λ k. BothStay before result after result′)
-      (VerdictGiven (settingOf f) before result after result′)
+abbrev pub SearchHosted : List ℕ → List ℕ → List ℕ → ℕ → List ℕ → List ℕ → Type 0
+SearchHosted f before result r after result′ =
+    Hosted (searchNumber f before result) r (BothStay before result after result′)
+    (VerdictGiven (settingOf f) before result after result′)
 
--- ---- the string decoder
+-- ---- the string decoder and the decoder table
+
+-- n bytes are written, of which byte k has Q, and field 0 is their number
+pub record BytesGiven (n : ℕ) (Q : ℕ → ℕ → Type 0) (before result after result′ : List ℕ) : Type 0 where
+  pub bytes : Written Q n before after
+  pub fields : result′ ≡ withFields result (n ∷ [])
 
 abbrev pub decodeNumber : List ℕ → Window → List ℕ → List ℕ → List ℕ → ℕ
 decodeNumber f w received before result = stringRefusalIn f w received (length before) (roomy result)
 
--- "Decoding", the sentence on strings, for a host: a right byte for each place with a full window; field 0 is the number of bytes
--- written.
-pub record DecodeHosted (f : List ℕ) (w : Window) (received before result : List ℕ) (r : ℕ) (after result′ : List ℕ) : Type 0 where
-  pub number : r ≡ decodeNumber f w received before result
-  pub bytes :
-      upon (decodeNumber f w received before result) (λ k. after ≡ before)
-      (Written (ByteAt (settingOf f) received w) (places (length received) w) before after)
-  pub fields :
-      result′ ≡
-      answer (decodeNumber f w received before result) (λ k. result) (withFields result (places (length received) w ∷ []))
+-- "Decoding", the sentence on strings, for a host: a right byte for each place with a full window.
+abbrev pub DecodeHosted : List ℕ → Window → List ℕ → List ℕ → List ℕ → ℕ → List ℕ → List ℕ → Type 0
+DecodeHosted f w received before result r after result′ =
+    Hosted (decodeNumber f w received before result) r (BothStay before result after result′)
+    (BytesGiven (places (length received) w) (ByteAt (settingOf f) received w) before result after result′)
+
+abbrev pub tableNumber : List ℕ → Window → List ℕ → List ℕ → ℕ
+tableNumber f w before result = tableRefusalIn f w (length before) (roomy result)
+
+-- "Decoding", the sentences on the table, for a host: a right byte at each index.
+abbrev pub TableHosted : List ℕ → Window → List ℕ → List ℕ → ℕ → List ℕ → List ℕ → Type 0
+TableHosted f w before result r after result′ =
+    Hosted (tableNumber f w before result) r (BothStay before result after result′)
+    (BytesGiven (tableSize (outputsOf f) w) (EntryOf f w) before result after result′)
 
 -- ---- the checker of looped pairs
 
@@ -98,37 +110,22 @@ pub record JudgementGiven (f : List ℕ) (p : LoopedPair) (result result′ : Li
   pub fields : result′ ≡ withFields result (numberOf judgement ∷ [])
 
 -- "Looped pair", the sentence on the checker, for a host: field 0 is 1 for a valid pair and 0 for any other.
-pub record CheckHosted (f : List ℕ) (p : LoopedPair) (result : List ℕ) (r : ℕ) (result′ : List ℕ) : Type 0 where
-  pub number : r ≡ checkNumber f p result
-  pub outcome : upon (checkNumber f p result) (λ k. result′ ≡ result) (JudgementGiven f p result result′)
+abbrev pub CheckHosted : List ℕ → LoopedPair → List ℕ → ℕ → List ℕ → Type 0
+CheckHosted f p result r result′ = Hosted (checkNumber f p result) r (result′ ≡ result) (JudgementGiven f p result result′)
 
 -- ---- one window
 
 abbrev pub windowNumber : List ℕ → Window → List ℕ → List ℕ → ℕ
 windowNumber f w received result = windowRefusal f w received (roomy result)
 
--- There is a right answer, and field 0 is its byte.
+-- There is a byte of a right answer, and field 0 is that byte.
 pub record AnswerGiven (f : List ℕ) (w : Window) (received result result′ : List ℕ) : Type 0 where
-  pub answer : Answer
-  pub right : RightOf f w received answer
-  pub fields : result′ ≡ withFields result (byteOf (meaning answer) ∷ [])
+  pub byte : ℕ
+  pub right : RightByte (settingOf f) received (w .before) byte
+  pub fields : result′ ≡ withFields result (byte ∷ [])
 
 -- Demand 2, second sentence, for a host: field 0 is the letter that alone fits, 254 for "none" or 255 for "several" ("Decoding", third
 -- sentence).
-pub record WindowHosted (f : List ℕ) (w : Window) (received result : List ℕ) (r : ℕ) (result′ : List ℕ) : Type 0 where
-  pub number : r ≡ windowNumber f w received result
-  pub outcome : upon (windowNumber f w received result) (λ k. result′ ≡ result) (AnswerGiven f w received result result′)
-
--- ---- the decoder table
-
-abbrev pub tableNumber : List ℕ → Window → List ℕ → List ℕ → ℕ
-tableNumber f w before result = tableRefusalIn f w (length before) (roomy result)
-
--- "Decoding", the sentences on the table, for a host: a right byte at each index; field 0 is the table's size.
-pub record TableHosted (f : List ℕ) (w : Window) (before result : List ℕ) (r : ℕ) (after result′ : List ℕ) : Type 0 where
-  pub number : r ≡ tableNumber f w before result
-  pub bytes :
-      upon (tableNumber f w before result) (λ k. after ≡ before)
-      (Written (EntryOf f w) (tableSize (outputsOf f) w) before after)
-  pub fields :
-      result′ ≡ answer (tableNumber f w before result) (λ k. result) (withFields result (tableSize (outputsOf f) w ∷ []))
+abbrev pub WindowHosted : List ℕ → Window → List ℕ → List ℕ → ℕ → List ℕ → Type 0
+WindowHosted f w received result r result′ =
+    Hosted (windowNumber f w received result) r (result′ ≡ result) (AnswerGiven f w received result result′)

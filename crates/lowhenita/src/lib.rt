@@ -1,10 +1,23 @@
 // The calls for a host in C: the refusal's number or 0, and the results in a lent buffer. include/lowhenita.h describes them.
+ghost use mathlib.Core.Bool.{_&&_};
+ghost use mathlib.Core.Path.{_≡_};
+ghost use lib.Dec.{leb};
 ghost use Rattle.values.specs.Window.{window};
 ghost use Rattle.values.specs.Pair.{pairOf, loopedPair};
 ghost use Rattle.lowhenita.specs.Host.{RunHosted, SearchHosted, DecodeHosted, CheckHosted, WindowHosted, TableHosted};
 
 // The bytes of the result buffer that each call wants.
 const RESULT: usize = 64;
+
+// Whether n bytes fit into a lent buffer of `room` bytes, and the result buffer has as many bytes as each call wants.
+fn both_fit(n: usize, room: usize, result: usize) -> bool
+    ensures { λ r. ⌜ r ≡ (leb n room && leb 64 result) ⌝ }
+{
+    if n <= room {
+        return RESULT <= result;
+    }
+    false
+}
 
 // Runs the coder from a start state: writes an output letter for each input letter. Refusals 1 to 6, 7, 11, 12.
 #[no_mangle]
@@ -17,17 +30,14 @@ pub extern "C" fn lowhenita_run(
 ) -> usize
     ensures { λ r. ⌜ RunHosted (now (file .entry)) start (now (input .entry)) (now (output .entry)) (now (result .entry)) r (now (output .exit)) (now (result .exit)) ⌝ }
 {
-    if result.len() < RESULT {
-        return running::inner::refusal(file, start, input, false);
+    let fits = both_fit(input.len(), output.len(), result.len());
+    let k = running::inner::refusal(file, start, input, fits);
+    if k != 0 {
+        return k;
     }
-    let r = running::run(file, start, input, output);
-    match r {
-        running::RunResult::Refused(k) => k,
-        running::RunResult::Done { count, end } => {
-            layout::inner::put_two(result, count, end);
-            0
-        }
-    }
+    let end = running::inner::checked(file, start, input, output);
+    layout::inner::put_two(result, input.len(), end);
+    0
 }
 
 // Finds the least window that works for a coder, or a looped pair where none does. Refusals 1 to 6, 11. Which looped pair is given is
@@ -36,17 +46,14 @@ pub extern "C" fn lowhenita_run(
 pub extern "C" fn lowhenita_search(file: &[u8], letters: &mut [u8], result: &mut [u8]) -> usize
     ensures { λ r. ⌜ SearchHosted (now (file .entry)) (now (letters .entry)) (now (result .entry)) r (now (letters .exit)) (now (result .exit)) ⌝ }
 {
-    if result.len() < RESULT {
-        return search::inner::refusal(file, false);
+    let fits = both_fit(search::inner::WANTED, letters.len(), result.len());
+    let k = search::inner::refusal(file, fits);
+    if k != 0 {
+        return k;
     }
-    let r = search::search(file, letters);
-    match r {
-        search::SearchResult::Refused(k) => k,
-        search::SearchResult::Found(v) => {
-            layout::inner::put_verdict(result, v);
-            0
-        }
-    }
+    let verdict = search::inner::checked(file, letters);
+    layout::inner::put_verdict(result, verdict);
+    0
 }
 
 // Decodes each place of a string that has a full window. Refusals 1 to 6, 8, 11, 13.
@@ -62,17 +69,14 @@ pub extern "C" fn lowhenita_decode(
     ensures { λ r. ⌜ DecodeHosted (now (file .entry)) (window before after) (now (received .entry)) (now (output .entry)) (now (result .entry)) r (now (output .exit)) (now (result .exit)) ⌝ }
 {
     let w = values::Window { before, after };
-    if result.len() < RESULT {
-        return decoder::inner::refusal::string(file, w, received, output.len(), false);
+    let fits = RESULT <= result.len();
+    let k = decoder::inner::refusal::string(file, w, received, output.len(), fits);
+    if k != 0 {
+        return k;
     }
-    let r = decoder::string(file, w, received, output);
-    match r {
-        decoder::CountResult::Refused(k) => k,
-        decoder::CountResult::Done { count } => {
-            layout::inner::put_one(result, count);
-            0
-        }
-    }
+    let count = decoder::inner::checked::string(file, w, received, output);
+    layout::inner::put_one(result, count);
+    0
 }
 
 // Whether a looped pair is valid. Refusals 1 to 6, 7, 9, 11, 12.
@@ -98,17 +102,14 @@ pub extern "C" fn lowhenita_check(
         lead_out,
         forward_loop,
     };
-    if result.len() < RESULT {
-        return checker::inner::refusal::check(file, pair, letters, false);
+    let fits = RESULT <= result.len();
+    let k = checker::inner::refusal::check(file, pair, letters, fits);
+    if k != 0 {
+        return k;
     }
-    let r = checker::check(file, pair, letters);
-    match r {
-        checker::CheckResult::Refused(k) => k,
-        checker::CheckResult::Checked(valid) => {
-            layout::inner::put_one(result, layout::inner::yes_or_no(valid));
-            0
-        }
-    }
+    let valid = checker::inner::checked(file, pair, letters);
+    layout::inner::put_one(result, layout::inner::yes_or_no(valid));
+    0
 }
 
 // Decodes one window of received letters. Refusals 1 to 6, 8, 9, 11, 13.
@@ -123,20 +124,15 @@ pub extern "C" fn lowhenita_window(
     ensures { λ r. ⌜ WindowHosted (now (file .entry)) (window before after) (now (received .entry)) (now (result .entry)) r (now (result .exit)) ⌝ }
 {
     let w = values::Window { before, after };
-    if result.len() < RESULT {
-        return decoder::inner::refusal::window(file, w, received, false);
+    let fits = RESULT <= result.len();
+    let k = decoder::inner::refusal::window(file, w, received, fits);
+    if k != 0 {
+        return k;
     }
-    let r = decoder::window(file, w, received);
-    match r {
-        decoder::WindowResult::Refused(k) => k,
-        decoder::WindowResult::Answered(a) => {
-            layout::inner::put_one(
-                result,
-                coder::inner::bytes::number(fitting::inner::answer::answer_byte(a)),
-            );
-            0
-        }
-    }
+    let answer = decoder::inner::checked::window(file, w, received);
+    let x = fitting::inner::answer::answer_byte(answer);
+    layout::inner::put_one(result, coder::inner::bytes::number(x));
+    0
 }
 
 // Fills the decoder table: a byte for each window, by its index. Refusals 1 to 6, 8, 10, 11.
@@ -151,15 +147,12 @@ pub extern "C" fn lowhenita_table(
     ensures { λ r. ⌜ TableHosted (now (file .entry)) (window before after) (now (table .entry)) (now (result .entry)) r (now (table .exit)) (now (result .exit)) ⌝ }
 {
     let w = values::Window { before, after };
-    if result.len() < RESULT {
-        return decoder::inner::refusal::table(file, w, table.len(), false);
+    let fits = RESULT <= result.len();
+    let k = decoder::inner::refusal::table(file, w, table.len(), fits);
+    if k != 0 {
+        return k;
     }
-    let r = decoder::table(file, w, table);
-    match r {
-        decoder::CountResult::Refused(k) => k,
-        decoder::CountResult::Done { count } => {
-            layout::inner::put_one(result, count);
-            0
-        }
-    }
+    let count = decoder::inner::checked::table(file, w, table);
+    layout::inner::put_one(result, count);
+    0
 }

@@ -1,59 +1,66 @@
--- `lowhenita_run` meets its contract: a short result, a refusal of the library's run, or its count and end state.
+-- `lowhenita_run` meets its contract: the refusal, or the run of the checked part with its count and end state as fields.
+use mathlib.Core.Path.{_≡_, refl}
 use borrow.Author.Needs.{needs}
-use Rattle.lowhenita.proofs.Handing.{run-too-short, run-refused, run-done}
+use denote.Ref.{now}
+use Rattle.coder.proofs.Refusals.{via}
+use Rattle.running.specs.Run.{RunAsked}
+use Rattle.lowhenita.specs.Host.{runNumber}
+use Rattle.lowhenita.proofs.Handing.{hosted-refused, hosted-done, Accepted, accepted-run}
 use Rattle.lowhenita.proofs.lowhenita_run.Statement.{statement}
 use Rattle.lowhenita.proofs.lowhenita_run.Tie as tie
+
+both-fit-requires : tie.Need-both-fit-requires
+both-fit-requires c κs = search needs
 
 refusal-requires : tie.Need-refusal-requires
 refusal-requires c κs = search needs
 
+told :
+    (c : tie.After-refusal) →
+    let a = c .before .before .before .before .before .before .args in
+    c .refusal .result ≡ runNumber (now (a .file)) (a .start) (now (a .input)) (now (a .output)) (now (a .result))
+told c = rw (c .before .both-fit .ensures) at (c .refusal .ensures)
+
+accepted :
+    (c : tie.Else1) →
+    let a = c .before .before .before .before .before .before .before .args in
+    Accepted (RunAsked (now (a .file)) (a .start) (now (a .input)) (now (a .output))) (now (a .result))
+accepted c = accepted-run _ _ _ _ _ (via (told (c .before)) (c .if1 .left))
+
 returns : tie.Need-returns
-returns c = run-too-short _ _ _ _ _ (c .before .if1 .taken) _ (c .refusal .ensures)
+returns c = hosted-refused (told (c .before)) (c .if1 .taken) (record { bytes = refl; fields = refl })
 
-run-requires : tie.Need-run-requires
-run-requires c κs = search needs
-
-enum-known-r : tie.Need-enum-known-r
-enum-known-r c = search needs
-
-enum-known-r-2 : tie.Need-enum-known-r-2
-enum-known-r-2 c = search needs
+checked-requires : tie.Need-checked-requires
+checked-requires c κs = accepted (c .before) .asked
 
 put-two-requires : tie.Need-put-two-requires
-put-two-requires c κs = search needs
+put-two-requires c κs = accepted (c .before .before .before .before .before) .room
 
 same-length : tie.Need-same-length
 same-length c = search needs
 
-returns-2 : tie.Need-returns-2
-returns-2 c =
-    run-refused _ _ _ _ _ (c .before .before .before .before .before .before .before .if1 .left)
-    (c .before .before .before .before .before .run .ensures) _ (c .before .r .given .1)
-
 same-length-2 : tie.Need-same-length-2
 same-length-2 c = search needs
 
-same-length-3 : tie.Need-same-length-3
-same-length-3 c = search needs
-
-returns-3 : tie.Need-returns-3
-returns-3 c =
-    run-done _ _ _ _ _ (c .before .before .before .before .before .before .before .before .before .before .before .if1 .left)
-    (c .before .before .before .before .before .before .before .before .before .run .ensures) _ _ _
-    (c .before .before .before .before .before .r2 .given .1) (c .before .before .put-two .ensures)
+returns-2 : tie.Need-returns-2
+returns-2 c =
+    let v = c .before .before .before .before .before .before in
+    let e = v .before .before in
+    let r = v .checked .ensures in
+    hosted-done (via (told (e .before)) (e .if1 .left)) (record {
+      bytes = r .bytes;
+      fields = rw (r .ends) at (c .before .before .put-two .ensures);
+    })
 
 pub lowhenita-run-spec : {M : Type 1} → statement M
 lowhenita-run-spec =
     tie.close
     (tie.spec
+    both-fit-requires
     refusal-requires
     returns
-    run-requires
-    enum-known-r
-    enum-known-r-2
+    checked-requires
     put-two-requires
     same-length
-    returns-2
     same-length-2
-    same-length-3
-    returns-3)
+    returns-2)

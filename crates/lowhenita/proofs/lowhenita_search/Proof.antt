@@ -1,59 +1,70 @@
--- `lowhenita_search` meets its contract: a short result, a refusal of the library's search, or its verdict.
+-- `lowhenita_search` meets its contract: the refusal, or the verdict of the checked part as fields.
+use mathlib.Core.Path.{_≡_, refl}
+use lib.ListN.{length}
+use lib.Dec.{leb}
 use borrow.Author.Needs.{needs}
-use Rattle.lowhenita.proofs.Handing.{search-too-short, search-refused, search-done}
+use denote.Ref.{now}
+use Rattle.coder.proofs.Refusals.{via}
+use Rattle.search.specs.Search.{searchRefusal, wanted}
+use Rattle.lowhenita.specs.Host.{searchNumber}
+use Rattle.lowhenita.proofs.Handing.{hosted-refused, hosted-done, Accepted, accepted-search}
 use Rattle.lowhenita.proofs.lowhenita_search.Statement.{statement}
 use Rattle.lowhenita.proofs.lowhenita_search.Tie as tie
+
+both-fit-requires : tie.Need-both-fit-requires
+both-fit-requires c κs = search needs
 
 refusal-requires : tie.Need-refusal-requires
 refusal-requires c κs = search needs
 
+told :
+    (c : tie.After-refusal) →
+    let a = c .before .before .before .before .before .args in
+    c .refusal .result ≡ searchNumber (now (a .file)) (now (a .letters)) (now (a .result))
+told c = rw (c .before .both-fit .ensures) at (c .refusal .ensures)
+
+accepted :
+    (c : tie.Else1) →
+    let a = c .before .before .before .before .before .before .args in
+    Accepted (searchRefusal (now (a .file)) (leb wanted (length (now (a .letters)))) ≡ 0) (now (a .result))
+accepted c =
+    let a = c .before .before .before .before .before .before .args in
+    accepted-search (now (a .file)) (now (a .letters)) (now (a .result)) (via (told (c .before)) (c .if1 .left))
+
 returns : tie.Need-returns
-returns c = search-too-short _ _ _ (c .before .if1 .taken) _ (c .refusal .ensures)
+returns c = hosted-refused (told (c .before)) (c .if1 .taken) (record { bytes = refl; fields = refl })
 
-search-requires : tie.Need-search-requires
-search-requires c κs = search needs
-
-enum-known-r : tie.Need-enum-known-r
-enum-known-r c = search needs
-
-enum-known-r-2 : tie.Need-enum-known-r-2
-enum-known-r-2 c = search needs
+checked-requires : tie.Need-checked-requires
+checked-requires c κs = accepted (c .before) .asked
 
 put-verdict-requires : tie.Need-put-verdict-requires
-put-verdict-requires c κs = search needs
+put-verdict-requires c κs = accepted (c .before .before .before .before .before) .room
 
 same-length : tie.Need-same-length
 same-length c = search needs
 
-returns-2 : tie.Need-returns-2
-returns-2 c =
-    search-refused _ _ _ (c .before .before .before .before .before .before .before .if1 .left)
-    (c .before .before .before .before .before .search .ensures) _ (c .before .r .given .1)
-
 same-length-2 : tie.Need-same-length-2
 same-length-2 c = search needs
 
-same-length-3 : tie.Need-same-length-3
-same-length-3 c = search needs
-
-returns-3 : tie.Need-returns-3
-returns-3 c =
-    search-done _ _ _ (c .before .before .before .before .before .before .before .before .before .before .before .if1 .left)
-    (c .before .before .before .before .before .before .before .before .before .search .ensures) _ _
-    (c .before .before .before .before .before .r2 .given .1) (c .before .before .put-verdict .ensures)
+returns-2 : tie.Need-returns-2
+returns-2 c =
+    let v = c .before .before .before .before .before .before in
+    let e = v .before .before in
+    hosted-done (via (told (e .before)) (e .if1 .left)) (record {
+      verdict = v .checked .result;
+      says = v .checked .ensures;
+      fields = c .before .before .put-verdict .ensures;
+    })
 
 pub lowhenita-search-spec : {M : Type 1} → statement M
 lowhenita-search-spec =
     tie.close
     (tie.spec
+    both-fit-requires
     refusal-requires
     returns
-    search-requires
-    enum-known-r
-    enum-known-r-2
+    checked-requires
     put-verdict-requires
     same-length
-    returns-2
     same-length-2
-    same-length-3
-    returns-3)
+    returns-2)
