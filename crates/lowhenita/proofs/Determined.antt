@@ -14,7 +14,7 @@ use Rattle.values.specs.Window.{size}
 use Rattle.values.specs.declared.Window.{Window}
 use Rattle.values.specs.declared.LoopedPair as values
 use Rattle.fitting.proofs.Answers.{right-byte-unique}
-use Rattle.decoder.specs.Table.{windowAt}
+use Rattle.filling.specs.Table.{windowAt}
 use Rattle.decoder.proofs.Writing.{written-unique}
 use Rattle.search.specs.Search.{order, Says, PairReport}
 use Rattle.search.proofs.Determined.{is-order}
