@@ -4,8 +4,7 @@ use mathlib.Core.List.{List, _++_}
 use Prim.Native.Nat.{ℕ, _-_, _^_, _≤_, _<_}
 use native.Mathlib.Omega.{arith}
 use lib.ListN.{length, getD, take, drop, length-append, length-drop, List·getD-append}
-use lib.Seq.{length-take-le, drop-at}
-use Rattle.mealy.specs.Answer.{byteOf}
+use lib.Seq.{drop-at}
 use Rattle.mealy.specs.Setting.{anyState}
 use Rattle.mealy.specs.Word.{Holds}
 use Rattle.coder.specs.File.{fileRefusal, outputsOf, machineOf, settingOf}
@@ -18,11 +17,11 @@ use Rattle.setting.proofs.Numbers.{holds-all}
 use Rattle.setting.proofs.Same.{coder-sound, coder-machine}
 use Rattle.chains.specs.Chain.{Keys}
 use Rattle.chains.specs.Rows.{Rowed}
-use Rattle.fitting.specs.Answer.{meaning, Right, RightByte}
+use Rattle.fitting.specs.Answer.{Right, RightByte}
 use Rattle.fitting.specs.declared.Answer.{Answer}
-use Rattle.fitting.proofs.Answers.{right-byte}
 use Rattle.filling.specs.Sets.{RowsOf}
 use Rattle.filling.specs.Table.{windowAt, TableFilled}
+use Rattle.fitting.specs.Tables.{SetsOf, TablesOf}
 use Rattle.filling.specs.Window.{decoded}
 use Rattle.filling.proofs.Window.{decoded-right}
 use Rattle.values.specs.Window.{size}
@@ -65,37 +64,35 @@ module _ {c : Coder} {f : List ℕ} (h : CoderOf c f) where
   next-of p = omega (arith, next-high c sound-of p, sound-of .states-high)
 
   -- its setting is the file's
-  byte-of : (w : List ℕ) (b : ℕ) {v : ℕ} → RightByte (settingOfCoder c) w b v → RightByte (settingOf f) w b v
+  pub byte-of : (w : List ℕ) (b : ℕ) {v : ℕ} → RightByte (settingOfCoder c) w b v → RightByte (settingOf f) w b v
   unfolding machineOf
   byte-of w b {v} = subst (λ M. RightByte (anyState M) w b v) (coder-machine (h .is) (accepted f (h .file)))
 
-  right-of : (w : List ℕ) (b : ℕ) (v : Answer) → Right (settingOfCoder c) w b v → Right (settingOf f) w b v
+  pub right-of : (w : List ℕ) (b : ℕ) (v : Answer) → Right (settingOfCoder c) w b v → Right (settingOf f) w b v
   right-of w b v = subst (λ M. Right (anyState M) w b v) (coder-machine (h .is) (accepted f (h .file)))
 
   module _ {starts : ℕ} (s : Holds (settingOfCoder c .Start) starts) where
     -- one window
-    pub answer-right :
+    answer-right :
         (w : List ℕ) (b : ℕ) {v : Answer} → b < length w → v ≡ decoded c starts w b → Right (settingOf f) w b v
     answer-right w b l q = rw q (right-of w b (decoded c starts w b) (decoded-right c sound-of w b s l))
 
-    byte-right :
-        (w : List ℕ) (b : ℕ) {v : ℕ} → b < length w → v ≡ byteOf (meaning (decoded c starts w b)) →
-        RightByte (settingOf f) w b v
-    byte-right w b l q = rw q (right-byte (settingOf f) w b (decoded c starts w b) (answer-right w b l refl))
+  -- the tables by output letter
+  pub tables-of :
+      {successors predecessors letters : List ℕ} {starts : ℕ} → SetsOf c successors predecessors letters →
+      Holds (settingOfCoder c .Start) starts → TablesOf c (c .next) successors predecessors letters starts
+  tables-of s p = record { sound = sound-of; next-is = refl; sets = s; starts-are = p }
 
-    -- a string
-    pub places-right :
-        (w : Window) (received : List ℕ) {n m : ℕ} {before after : List ℕ} → n ≡ size w → m ≡ places (length received) w →
-        PlacesDecoded c starts received (w .before) n m before after →
-        Written (ByteAt (settingOf f) received w) (places (length received) w) before after
-    places-right w received {n} {m} en em d =
-        rw (← em)
-        (written-map {Q = λ k v. v ≡ byteOf (meaning (decoded c starts (take n (drop k received)) (w .before)))}
-        (λ k v l q.
-        let long : length (take (size w) (drop k received)) ≡ size w =
-        length-take-le (size w) (drop k received) (simp length-drop (omega arith)) in
-        byte-right (take (size w) (drop k received)) (w .before) (omega arith) (rw en at q))
-        d)
+  -- a string
+  pub places-right :
+      (w : Window) (received : List ℕ) {n m : ℕ} {before after : List ℕ} → n ≡ size w → m ≡ places (length received) w →
+      PlacesDecoded c received (w .before) n m before after →
+      Written (ByteAt (settingOf f) received w) (places (length received) w) before after
+  places-right w received {n} {m} en em d =
+      rw (← em)
+      (written-map {Q = λ k v. RightByte (settingOfCoder c) (take n (drop k received)) (w .before) v}
+      (λ k v l q. byte-of (take (size w) (drop k received)) (w .before) (rw en at q))
+      d)
 
   -- a table, of which the first bytes were lent and are now ys
   pub table-right :

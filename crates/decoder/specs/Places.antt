@@ -1,5 +1,5 @@
 -- A string: the call's promise, place by place.
-use Prim.Native.Nat.{ℕ, _+_, _-_, _≤_}
+use Prim.Native.Nat.{ℕ, _+_, _-_, _≤_, _<_}
 use mathlib.Core.Path.{_≡_}
 use mathlib.Core.Bool.{Bool, true, _&&_}
 use mathlib.Core.List.{List}
@@ -7,14 +7,14 @@ use lib.ListN.{length, take, drop}
 use lib.Dec.{leb}
 use Rattle.mealy.specs.Machine.{Letters}
 use Rattle.mealy.specs.Setting.{Setting}
-use Rattle.mealy.specs.Answer.{byteOf}
-use Rattle.coder.specs.Limits.{maxOutputs, maxSide}
+use Rattle.coder.specs.Limits.{maxOutputs}
 use Rattle.coder.specs.File.{settingOf}
 use Rattle.coder.specs.declared.inner.tables.Coder.{Coder}
 use Rattle.values.specs.Window.{size}
 use Rattle.values.specs.declared.Window.{Window}
-use Rattle.fitting.specs.Answer.{meaning, RightByte}
-use Rattle.filling.specs.Window.{PassAsked, decoded}
+use Rattle.fitting.specs.Answer.{RightByte}
+use Rattle.setting.specs.Words.{settingOfCoder}
+use Rattle.fitting.specs.Tables.{Tables}
 use Rattle.decoder.specs.Written.{Written}
 use Rattle.decoder.specs.Count.{CountPromise, CountGiven}
 use Rattle.decoder.specs.Refusal.{stringRefusal}
@@ -51,14 +51,14 @@ StringGiven f w received before count after =
     CountGiven (places (length received) w) (ByteAt (settingOf f) received w) before count after
 
 -- what the loop over the places asks: m windows of n letters lie in the string, and m bytes in the buffer
-pub record PlacesAsked (next start entries : List ℕ) (states : ℕ) (received : List ℕ) (b n m : ℕ) (before : List ℕ) : Type 0 where
-  pub arrays : PassAsked next start entries states
-  pub letters : Letters maxOutputs received
-  pub side : b ≤ maxSide
+pub record PlacesAsked (next successors predecessors letters : List ℕ) (starts : ℕ) (received : List ℕ) (b n m : ℕ) (before : List ℕ) : Type 0 where
+  pub tables : Tables next successors predecessors letters starts
+  pub below : Letters maxOutputs received
+  pub present : b < n
   pub windows : m ≤ length received + 1 - n
   pub room : m ≤ length before
 
 -- and what it does
-abbrev pub PlacesDecoded : Coder → ℕ → List ℕ → ℕ → ℕ → ℕ → List ℕ → List ℕ → Type 0
-PlacesDecoded c starts received b n m before after =
-    Written (λ k v. v ≡ byteOf (meaning (decoded c starts (take n (drop k received)) b))) m before after
+abbrev pub PlacesDecoded : Coder → List ℕ → ℕ → ℕ → ℕ → List ℕ → List ℕ → Type 0
+PlacesDecoded c received b n m before after =
+    Written (λ k v. RightByte (settingOfCoder c) (take n (drop k received)) b v) m before after

@@ -1,14 +1,13 @@
--- One window: the pass over its letters.
-use Prim.Native.Nat.{ℕ, zero, suc, pred, _<_, _≤_}
+-- One window as a computation: what a table has for it. The laws that an outcome exists and the worked examples compute with it.
+use Prim.Native.Nat.{ℕ, zero, suc, pred}
 use mathlib.Core.List.{List, [], _∷_}
 use lib.Bits.{bitOr}
 use lib.ListN.{getD}
 use lib.Dec.{eqb}
-use Rattle.coder.specs.Limits.{maxStates}
 use Rattle.coder.specs.declared.inner.tables.Coder.{Coder}
 use Rattle.fitting.specs.Answer.{answerOf}
 use Rattle.fitting.specs.declared.Answer.{Answer}
-use Rattle.filling.specs.Sets.{advance, startSets, RowsAsked}
+use Rattle.filling.specs.Sets.{advance, startSets}
 
 -- the sets after all letters of w, of which letter p, counted from 1, is the present one
 unfoldable pub pass : Coder → List ℕ → List ℕ → List ℕ → ℕ → List ℕ
@@ -22,9 +21,3 @@ unionOf (suc n) v = bitOr (unionOf n v) (getD v n 0)
 
 unfoldable pub decoded : Coder → ℕ → List ℕ → ℕ → Answer
 decoded c starts w b = answerOf (unionOf (c .states) (pass c (c .next) (startSets starts) w (suc b)))
-
--- what the pass asks of the arrays
-pub record PassAsked (next start entries : List ℕ) (states : ℕ) : Type 0 where
-  pub rows : RowsAsked start entries
-  pub next-high : (p : ℕ) → getD next p 0 < maxStates
-  pub states-high : states ≤ maxStates

@@ -1,8 +1,7 @@
 -- Sets of states from the last letter back, and the letters between a set before the present letter and one after it.
-use mathlib.Core.Path.{_≡_, refl, sym, subst, _∙_}
-use mathlib.Core.List.{List, [], _∷_}
-use mathlib.Core.Logic.{_≢_}
-use Prim.Native.Nat.{ℕ, zero, suc, _+_, _*_, _<_, _≤_}
+use mathlib.Core.Path.{_≡_}
+use mathlib.Core.List.{List}
+use Prim.Native.Nat.{ℕ, suc, _<_, _≤_}
 use native.Mathlib.Omega.{arith}
 use lib.ListN.{length, getD, drop}
 use lib.Seq.{drop-cons}
@@ -10,7 +9,7 @@ use Rattle.mealy.specs.Word.{Has, Holds}
 use Rattle.mealy.specs.Image.{Image, Transitions, Leading}
 use Rattle.mealy.proofs.Words.{holds-map, holds-none, holds-empty}
 use Rattle.mealy.proofs.Members.{holds-member}
-use Rattle.mealy.proofs.Images.{Within, image-within}
+use Rattle.mealy.proofs.Images.{image-within}
 use Rattle.mealy.proofs.Leading.{leading-none}
 use Rattle.setting.proofs.Numbers.{holds-all}
 use Rattle.fitting.proofs.Steps.{drop-none}

@@ -1,15 +1,14 @@
 -- The present letter: which input letters fit, by the words that hold the states before it.
-use mathlib.Core.Path.{_≡_, refl, sym, subst}
+use mathlib.Core.Path.{_≡_, refl}
 use mathlib.Core.List.{List, [], _∷_}
-use mathlib.Core.Logic.{_≢_}
 use Prim.Native.Nat.{ℕ, suc, _+_, _-_, _*_, _<_}
 use native.Mathlib.Omega.{arith}
 use native.Mathlib.Numerals.{add-one}
 use lib.ListN.{length, getD, take, drop, length-drop}
 use lib.Seq.{drop-cons, take-length}
 use Rattle.mealy.specs.Word.{Has, Holds}
-use Rattle.mealy.specs.Image.{Image, Transitions, Following, Leading, Reached, Fitting}
-use Rattle.mealy.proofs.Words.{holds-map, holds-empty, holds-greatest}
+use Rattle.mealy.specs.Image.{Image, Transitions, Following, Leading, Reached}
+use Rattle.mealy.proofs.Words.{holds-map}
 use Rattle.mealy.proofs.Members.{holds-member}
 use Rattle.mealy.proofs.Leading.{Known, reached-leading, leading-reached}
 use Rattle.mealy.specs.Machine.{Letters}

@@ -11,7 +11,8 @@ use chains::inner::rows_by_key;
 use coder::inner::tables::Coder;
 use filling::inner::table::fill;
 use filling::inner::table::size;
-use filling::inner::window::decode;
+use fitting::inner::tables::of_coder;
+use fitting::inner::window::decode;
 use setting::inner::start_states;
 use values::Window;
 
@@ -21,18 +22,17 @@ pub fn window(file: &[u8], w: Window, received: &[u8]) -> fitting::Answer
     ensures { λ r. ⌜ RightOf (now (file .entry)) w (now (received .entry)) r ⌝ }
 {
     let c = Coder::from_checked(file);
-    let states = c.states;
-    let inputs = c.inputs;
-    let rows = rows_by_key(&c.output, states, inputs);
     let starts = start_states(c);
+    let sets = of_coder(c);
+    let b = w.before;
     decode(
         &c.next,
-        &rows.start,
-        &rows.entries,
-        states,
+        &sets.successors,
+        &sets.predecessors,
+        &sets.letters,
         starts,
         received,
-        w.before,
+        b,
     )
 }
 
@@ -42,20 +42,19 @@ pub fn string(file: &[u8], w: Window, received: &[u8], output: &mut [u8]) -> usi
     ensures { λ r. ⌜ StringGiven (now (file .entry)) w (now (received .entry)) (now (output .entry)) r (now (output .exit)) ⌝ }
 {
     let c = Coder::from_checked(file);
-    let states = c.states;
-    let inputs = c.inputs;
-    let rows = rows_by_key(&c.output, states, inputs);
     let starts = start_states(c);
+    let sets = of_coder(c);
+    let b = w.before;
     let n = sizes::letters(w);
     let count = sizes::places(received.len(), w);
     decode_places(
         &c.next,
-        &rows.start,
-        &rows.entries,
-        states,
+        &sets.successors,
+        &sets.predecessors,
+        &sets.letters,
         starts,
         received,
-        w.before,
+        b,
         n,
         count,
         output,

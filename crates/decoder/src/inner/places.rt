@@ -1,17 +1,16 @@
 // A string, place by place.
-ghost use mathlib.Core.Path.{_≡_};
 ghost use Rattle.coder.specs.declared.inner.tables.Coder.{Coder};
-ghost use Rattle.filling.specs.Sets.{RowsOf};
+ghost use Rattle.fitting.specs.Tables.{TablesOf};
 ghost use Rattle.decoder.specs.Places.{PlacesAsked, PlacesDecoded};
-use filling::inner::window::decode;
 use fitting::inner::answer::answer_byte;
+use fitting::inner::window::decode;
 
 // Decodes the parts of n letters that start at the first m places of the received letters, each by itself.
 pub fn decode_places<'a>(
     next: &'a [u8; 256],
-    start: &'a [u16; 65],
-    entries: &'a [u8; 256],
-    states: usize,
+    successors: &'a [u16; 1024],
+    predecessors: &'a [u16; 1024],
+    letters: &'a [u16; 1024],
     starts: u16,
     received: &[u8],
     b: usize,
@@ -19,13 +18,21 @@ pub fn decode_places<'a>(
     m: usize,
     output: &mut [u8],
 )
-    requires { ⌜ PlacesAsked (now next) (now start) (now entries) states (now received) b n m (now output) ⌝ }
-    ensures { λ _. ⌜ ((c : Coder) → RowsOf c (now (start .entry)) (now (entries .entry)) → now (next .entry) ≡ c .next → states ≡ c .states → PlacesDecoded c starts (now (received .entry)) b n m (now (output .entry)) (now (output .exit))) ⌝ }
+    requires { ⌜ PlacesAsked (now next) (now successors) (now predecessors) (now letters) starts (now received) b n m (now output) ⌝ }
+    ensures { λ _. ⌜ ((c : Coder) → TablesOf c (now (next .entry)) (now (successors .entry)) (now (predecessors .entry)) (now (letters .entry)) starts → PlacesDecoded c (now (received .entry)) b n m (now (output .entry)) (now (output .exit))) ⌝ }
 {
     let mut k = 0;
     while k < m {
         let end = k + n;
-        let part = decode(next, start, entries, states, starts, &received[k..end], b);
+        let part = decode(
+            next,
+            successors,
+            predecessors,
+            letters,
+            starts,
+            &received[k..end],
+            b,
+        );
         output[k] = answer_byte(part);
         k += 1;
     }

@@ -5,9 +5,6 @@ use borrow.Author.Needs.{needs}
 use native.Mathlib.Omega.{arith}
 use Rattle.fitting.proofs.inner.sets.between.Statement.{statement}
 use Rattle.fitting.proofs.inner.sets.between.Tie as tie
-use Rattle.fitting.proofs.inner.sets.between.Reads as reads
-use Rattle.fitting.proofs.inner.sets.between.Lts as lts
-use Rattle.fitting.proofs.inner.sets.of_state.Reads as of-state-reads
 
 abbrev Inv-loop : tie.InvT-loop
 Inv-loop next letters o set from fit₀ rest₀ fit rest = Passed set rest (Between next letters o from) fit
@@ -15,11 +12,9 @@ Inv-loop next letters o set from fit₀ rest₀ fit rest = Passed set rest (Betw
 abbrev μ-loop : tie.MeasureT-loop
 μ-loop next letters o set from fit₀ rest₀ fit rest = rest
 
--- src/inner/sets.rt:97:5
 loop-holds : tie.Need-loop-holds Inv-loop μ-loop
 loop-holds c = passed-none (omega arith)
 
--- src/inner/sets.rt:98:17
 -- the least member of the rest
 member : (c : tie.In-loop Inv-loop μ-loop) → LeastMember 16 (c .before .loop .rest)
 member c = least-member 16 _ (c .before .loop .inv .bound) (c .loop-test .taken)
@@ -27,39 +22,30 @@ member c = least-member 16 _ (c .before .loop .inv .bound) (c .loop-test .taken)
 cast-s : tie.Need-cast-s Inv-loop μ-loop
 cast-s c = omega (arith, member c .below)
 
--- src/inner/sets.rt:99:47
 mul-of-state : tie.Need-mul-of-state Inv-loop μ-loop
 mul-of-state c = search needs
 
--- src/inner/sets.rt:99:47
 add-of-state : tie.Need-add-of-state Inv-loop μ-loop
 add-of-state c = omega (arith, member c .below)
 
--- src/inner/sets.rt:99:39
 mul-of-state-2 : tie.Need-mul-of-state-2 Inv-loop μ-loop
 mul-of-state-2 c = omega (arith, member c .below)
 
--- src/inner/sets.rt:99:39
 element-copy-out-of-state : tie.Need-element-copy-out-of-state Inv-loop μ-loop
 element-copy-out-of-state c = omega (arith, member c .below)
 
--- src/inner/sets.rt:99:21
 of-state-requires : tie.Need-of-state-requires Inv-loop μ-loop
 of-state-requires c κs = (member (c .before) .below, c .before .before .before .pre .2)
 
--- src/inner/sets.rt:100:24
 sub-rest : tie.Need-sub-rest Inv-loop μ-loop
 sub-rest c = search needs
 
--- src/inner/sets.rt:97:5
 loop-less : tie.Need-loop-less Inv-loop μ-loop
 loop-less c = member (c .before .before) .taken .less
 
--- src/inner/sets.rt:97:5
 loop-again : tie.Need-loop-again Inv-loop μ-loop
 loop-again c = let l = member (c .before .before) .below in passed-more (c .before .before .before .loop .inv) (c .before .before .loop-test .taken) (holds-map (λ x h. ((l, h .0), h .1)) (λ x h. (h .0 .1, h .1)) (c .«of-state» .ensures))
 
--- src/inner/sets.rt:91:1
 returns : tie.Need-returns Inv-loop μ-loop
 returns c = passed-all (c .before .loop .inv) (c .loop-test .left)
 

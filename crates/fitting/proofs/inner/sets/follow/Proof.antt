@@ -1,9 +1,7 @@
 -- `follow` meets its contract: what follows the letters that are left follows all letters.
-use Prim.Native.Nat.{ℕ, _-_, _≤_}
+use Prim.Native.Nat.{_-_, _≤_}
 use lib.ListN.{length}
 use denote.Ref.{now}
-use Rattle.mealy.specs.Word.{Has, Holds}
-use Rattle.mealy.specs.Image.{Following}
 use Rattle.fitting.specs.Tables.{Leads}
 use Rattle.fitting.proofs.Steps.{Followed, followed-none, followed-more, followed-all, followed-empty}
 use Rattle.coder.proofs.Refusals.{letter-at}

@@ -1,11 +1,8 @@
 use denote.Ref.{now}
 -- `image` meets its contract: the union over the members that are not in the rest.
-use Prim.Native.Nat.{_<_}
-use lib.Count.{trailingZeros}
 use Rattle.mealy.proofs.Members.{LeastMember, least-member, Passed, passed-none, passed-more, passed-all}
 use Rattle.fitting.specs.Tables.{Leads}
 use Rattle.fitting.proofs.Making.{leads-holds}
-use borrow.Author.Needs.{needs}
 use native.Mathlib.Omega.{arith}
 use Rattle.fitting.proofs.inner.sets.image.Statement.{statement}
 use Rattle.fitting.proofs.inner.sets.image.Tie as tie

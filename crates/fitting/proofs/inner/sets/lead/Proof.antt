@@ -1,5 +1,4 @@
 use Rattle.fitting.proofs.Backward.{leads-all}
-use mathlib.Core.Path.{_≡_}
 use denote.Ref.{now}
 use Rattle.coder.proofs.Refusals.{letter-at}
 use Rattle.fitting.proofs.Backward.{LeadsFrom, leads-none, leads-more, leads-empty}
@@ -10,10 +9,6 @@ use borrow.Author.Needs.{needs}
 use native.Mathlib.Omega.{arith}
 use Rattle.fitting.proofs.inner.sets.lead.Statement.{statement}
 use Rattle.fitting.proofs.inner.sets.lead.Tie as tie
-use Rattle.fitting.proofs.inner.sets.lead.Reads as reads
-use Rattle.fitting.proofs.inner.sets.lead.Lts as lts
-use Rattle.coder.proofs.inner.bytes.byte.Reads as byte-reads
-use Rattle.fitting.proofs.inner.sets.image.Reads as image-reads
 
 abbrev Inv-loop : tie.InvT-loop
 Inv-loop predecessors w from₀ k₀ from k = (k ≤ length w) × LeadsFrom (Leads predecessors) w k from
@@ -21,35 +16,27 @@ Inv-loop predecessors w from₀ k₀ from k = (k ≤ length w) × LeadsFrom (Lea
 abbrev μ-loop : tie.MeasureT-loop
 μ-loop predecessors w from₀ k₀ from k = k
 
--- src/inner/sets.rt:53:5
 loop-holds : tie.Need-loop-holds Inv-loop μ-loop
 loop-holds c = (omega arith, leads-none _ (omega arith))
 
--- src/inner/sets.rt:55:13
 returns : tie.Need-returns Inv-loop μ-loop
 returns c = leads-empty (c .before .before .loop .inv .1) (c .if1 .taken)
 
--- src/inner/sets.rt:57:9
 sub-k : tie.Need-sub-k Inv-loop μ-loop
 sub-k c = search needs
 
--- src/inner/sets.rt:58:36
 byte-requires : tie.Need-byte-requires Inv-loop μ-loop
 byte-requires c κs = search needs
 
--- src/inner/sets.rt:58:9
 image-requires : tie.Need-image-requires Inv-loop μ-loop
 image-requires c κs = let p = c .before .before .before .before .before in let e = c .byte .ensures .0 in (p .pre .0, rw e (letter-at 64 (now (p .args .w)) (p .pre .1) _ (omega arith)))
 
--- src/inner/sets.rt:53:5
 loop-less : tie.Need-loop-less Inv-loop μ-loop
 loop-less c = search needs
 
--- src/inner/sets.rt:53:5
 loop-again : tie.Need-loop-again Inv-loop μ-loop
 loop-again c = let i = c .before .before .before .before .loop in (omega arith, leads-more (i .inv .1) _ (omega arith) (omega arith) (c .before .byte .ensures .0) (c .image .ensures))
 
--- src/inner/sets.rt:47:1
 returns-2 : tie.Need-returns-2 Inv-loop μ-loop
 returns-2 c = leads-all (c .before .loop .inv .1) (omega arith)
 

@@ -3,48 +3,34 @@ use Rattle.mealy.proofs.Words.{holds-none}
 use Prim.Native.Nat.{_+_, _*_}
 use mathlib.Core.Path.{refl}
 use borrow.Author.Needs.{needs}
-use native.Mathlib.Omega.{arith}
 use borrow.Author.Needs.{needs}
 use Rattle.fitting.proofs.inner.sets.on_letter.Statement.{statement}
 use Rattle.fitting.proofs.inner.sets.on_letter.Tie as tie
-use Rattle.fitting.proofs.inner.sets.on_letter.Reads as reads
-use Rattle.fitting.proofs.inner.sets.on_letter.Lts as lts
-use Rattle.coder.proofs.inner.bytes.number.Reads as number-reads
-use Rattle.setting.proofs.inner.has.Reads as has-reads
 
--- src/inner/sets.rt:68:30
 mul-number : tie.Need-mul-number
 mul-number c = search needs
 
--- src/inner/sets.rt:68:30
 add-number : tie.Need-add-number
 add-number c = search needs
 
--- src/inner/sets.rt:68:25
 element-copy-out-number : tie.Need-element-copy-out-number
 element-copy-out-number c = search needs
 
--- src/inner/sets.rt:68:18
 number-requires : tie.Need-number-requires
 number-requires c κs = search needs
 
--- src/inner/sets.rt:68:8
 has-requires : tie.Need-has-requires
 has-requires c κs = let a = c .before .before in rw (c .number .ensures .0) (a .pre .2 (16 * a .args .s + a .args .x))
 
--- src/inner/sets.rt:69:17
 cast-result : tie.Need-cast-result
 cast-result c = search needs
 
--- src/inner/sets.rt:69:9
 shl-result : tie.Need-shl-result
 shl-result c = search needs
 
--- src/inner/sets.rt:64:1
 returns : tie.Need-returns
 returns c = let a = c .before .before .before .before in holds-shifted _ (a .pre .1) (refl, rw (c .before .before .number .ensures .0) at (c .before .has .ensures .yes′ (c .if1 .taken))) (λ y g. g .0)
 
--- src/inner/sets.rt:64:1
 returns-2 : tie.Need-returns-2
 returns-2 c = holds-none (λ y g. c .before .has .ensures .no′ (c .if1 .left) (rw (c .before .before .number .ensures .0) (g .1)))
 

@@ -7,10 +7,6 @@ use borrow.Author.Needs.{needs}
 use native.Mathlib.Omega.{arith}
 use Rattle.fitting.proofs.inner.tables.by_output.Statement.{statement}
 use Rattle.fitting.proofs.inner.tables.by_output.Tie as tie
-use Rattle.fitting.proofs.inner.tables.by_output.Reads as reads
-use Rattle.fitting.proofs.inner.tables.by_output.Lts as lts
-use Rattle.fitting.proofs.inner.tables.given.Reads as given-reads
-use Rattle.fitting.proofs.inner.tables.none.Reads as none-reads
 
 abbrev Inv-loop : tie.InvT-loop
 Inv-loop keys values output states inputs words₀ p₀ words p = (p ≤ 16 * states) × Made keys values output inputs words p
@@ -18,23 +14,18 @@ Inv-loop keys values output states inputs words₀ p₀ words p = (p ≤ 16 * st
 abbrev μ-loop : tie.MeasureT-loop
 μ-loop keys values output states inputs words₀ p₀ words p = 16 * states - p
 
--- src/inner/tables.rt:63:21
 none-requires : tie.Need-none-requires Inv-loop μ-loop
 none-requires c κs = search needs
 
--- src/inner/tables.rt:65:5
 loop-holds : tie.Need-loop-holds Inv-loop μ-loop
 loop-holds c = let e = c .«none» .ensures in (omega arith, made-none (e .0) (e .1))
 
--- src/inner/tables.rt:65:15
 mul-loop : tie.Need-mul-loop Inv-loop μ-loop
 mul-loop c = search needs
 
--- src/inner/tables.rt:66:35
 element-copy-out-at : tie.Need-element-copy-out-at Inv-loop μ-loop
 element-copy-out-at c = search needs
 
--- src/inner/tables.rt:66:35
 -- where the entry's word stands
 key-low : (c : tie.After-at2 Inv-loop μ-loop) → getD (c .before .before .before .before .before .args .keys .now) (c .before .before .before .loop .p) 0 < 16
 key-low c = c .before .before .before .before .before .pre .keys-high (c .before .before .before .loop .p)
@@ -45,55 +36,42 @@ output-low c = c .before .before .before .before .before .pre .output-high (c .b
 cast-at : tie.Need-cast-at Inv-loop μ-loop
 cast-at c = let p = c .before .before .before .before in omega (arith, p .pre .output-high (c .before .before .loop .p))
 
--- src/inner/tables.rt:66:18
 mul-at : tie.Need-mul-at Inv-loop μ-loop
 mul-at c = let p = c .before .before .before .before in omega (arith, p .pre .output-high (c .before .before .loop .p))
 
--- src/inner/tables.rt:66:57
 element-copy-out-at-2 : tie.Need-element-copy-out-at-2 Inv-loop μ-loop
 element-copy-out-at-2 c = search needs
 
--- src/inner/tables.rt:66:57
 cast-at-2 : tie.Need-cast-at-2 Inv-loop μ-loop
 cast-at-2 c = omega (arith, key-low c, output-low c)
 
--- src/inner/tables.rt:66:18
 add-at : tie.Need-add-at Inv-loop μ-loop
 add-at c = omega (arith, key-low c, output-low c)
 
--- src/inner/tables.rt:67:21
 mul-words : tie.Need-mul-words Inv-loop μ-loop
 mul-words c = omega (arith, key-low c, output-low c)
 
--- src/inner/tables.rt:67:21
 array-read-words : tie.Need-array-read-words Inv-loop μ-loop
 array-read-words c = omega (arith, key-low c, output-low c)
 
--- src/inner/tables.rt:67:33
 given-requires : tie.Need-given-requires Inv-loop μ-loop
 given-requires c κs = let p = c .before .before .before .before .before .pre in (omega (arith, p .states-high), p .values-high)
 
--- src/inner/tables.rt:67:9
 mul-words-2 : tie.Need-mul-words-2 Inv-loop μ-loop
 mul-words-2 c = omega (arith, key-low (c .before), output-low (c .before))
 
--- src/inner/tables.rt:67:9
 array-write-words : tie.Need-array-write-words Inv-loop μ-loop
 array-write-words c = omega (arith, key-low (c .before), output-low (c .before))
 
--- src/inner/tables.rt:68:9
 add-p : tie.Need-add-p Inv-loop μ-loop
 add-p c = search needs
 
--- src/inner/tables.rt:65:5
 loop-less : tie.Need-loop-less Inv-loop μ-loop
 loop-less c = search needs
 
--- src/inner/tables.rt:65:5
 loop-again : tie.Need-loop-again Inv-loop μ-loop
 loop-again c = let i = c .before .before .before .before .loop in (omega arith, made-more (i .inv .1) (key-low (c .before)) (output-low (c .before)) (c .given .ensures) refl)
 
--- src/inner/tables.rt:53:1
 returns : tie.Need-returns Inv-loop μ-loop
 returns c = let i = c .before .loop in let e : i .p ≡ 16 * c .before .before .before .args .states = omega arith in record { size = i .inv .1 .size; holds = rw e at (i .inv .1 .holds) }
 

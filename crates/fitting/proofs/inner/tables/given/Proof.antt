@@ -6,26 +6,19 @@ use native.Mathlib.Omega.{arith}
 use borrow.Author.Needs.{needs}
 use Rattle.fitting.proofs.inner.tables.given.Statement.{statement}
 use Rattle.fitting.proofs.inner.tables.given.Tie as tie
-use Rattle.fitting.proofs.inner.tables.given.Reads as reads
-use Rattle.fitting.proofs.inner.tables.given.Lts as lts
 
--- src/inner/tables.rt:46:17
 element-copy-out-result : tie.Need-element-copy-out-result
 element-copy-out-result c = search needs
 
--- src/inner/tables.rt:46:17
 cast-result : tie.Need-cast-result
 cast-result c = let a = c .before .before in omega (arith, a .pre .1 (a .args .p))
 
--- src/inner/tables.rt:46:9
 shl-result : tie.Need-shl-result
 shl-result c = let a = c .before .before in a .pre .1 (a .args .p)
 
--- src/inner/tables.rt:41:1
 returns : tie.Need-returns
 returns c = let a = c .before .before in holds-shifted _ (a .pre .1 (a .args .p)) (c .before .if1 .taken, refl) (λ y g. sym (g .1))
 
--- src/inner/tables.rt:41:1
 returns-2 : tie.Need-returns-2
 returns-2 c = holds-none (λ y g. let l = g .0 in let m = c .if1 .left in omega arith)
 

@@ -1,36 +1,25 @@
 use mathlib.Core.Bool.{true, false}
 use Rattle.fitting.proofs.Meaning.{entries-asked, parts-high, next-low}
 use borrow.Author.Needs.{needs}
-use native.Mathlib.Omega.{arith}
 use borrow.Author.Needs.{needs}
 use Rattle.fitting.proofs.inner.tables.of_coder.Statement.{statement}
 use Rattle.fitting.proofs.inner.tables.of_coder.Tie as tie
-use Rattle.fitting.proofs.inner.tables.of_coder.Reads as reads
-use Rattle.fitting.proofs.inner.tables.of_coder.Lts as lts
-use Rattle.fitting.proofs.inner.tables.by_output.Reads as by-output-reads
-use Rattle.fitting.proofs.inner.tables.parts.Reads as parts-reads
 
--- src/inner/tables.rt:88:15
 parts-requires : tie.Need-parts-requires
 parts-requires c κs = search needs
 
--- src/inner/tables.rt:89:19
 parts-requires-2 : tie.Need-parts-requires-2
 parts-requires-2 c κs = search needs
 
--- src/inner/tables.rt:91:21
 by-output-requires : tie.Need-by-output-requires
 by-output-requires c κs = let p = c .before .before .before .before .before in let s = p .before .pre in rw (p .parts .ensures) (entries-asked s _ _ (parts-high false) (next-low s))
 
--- src/inner/tables.rt:92:23
 by-output-requires-2 : tie.Need-by-output-requires-2
 by-output-requires-2 c κs = let p = c .before .before .before .before .before .before .before .before .before .before in let s = p .before .pre in rw (p .parts .ensures) (entries-asked s _ _ (next-low s) (parts-high false))
 
--- src/inner/tables.rt:93:18
 by-output-requires-3 : tie.Need-by-output-requires-3
 by-output-requires-3 c κs = let p = c .before .before .before .before .before .before .before .before .before .before .before .before .before .before in let s = p .before .before .pre in rw (p .before .parts .ensures, p .parts2 .ensures) (entries-asked s _ _ (parts-high false) (parts-high true))
 
--- src/inner/tables.rt:82:1
 returns : tie.Need-returns
 returns c = let p = c .before .before .before .before .before .before .before .before .before .before .before .before .before .before .before in let e = p .before .parts .ensures in record { successors-are = rw e at (c .before .before .before .before .before .before .before .before .before .before .by-output .ensures); predecessors-are = rw e at (c .before .before .before .before .before .by-output2 .ensures); letters-are = rw (e, p .parts2 .ensures) at (c .by-output3 .ensures) }
 

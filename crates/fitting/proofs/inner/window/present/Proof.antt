@@ -2,33 +2,22 @@ use Rattle.fitting.proofs.Present.{here-last, here-between}
 use Rattle.mealy.specs.Word.{Has}
 use denote.Ref.{now}
 use borrow.Author.Needs.{needs}
-use native.Mathlib.Omega.{arith}
 use borrow.Author.Needs.{needs}
 use Rattle.fitting.proofs.inner.window.present.Statement.{statement}
 use Rattle.fitting.proofs.inner.window.present.Tie as tie
-use Rattle.fitting.proofs.inner.window.present.Reads as reads
-use Rattle.fitting.proofs.inner.window.present.Lts as lts
-use Rattle.fitting.proofs.inner.sets.between.Reads as between-reads
-use Rattle.fitting.proofs.inner.sets.image.Reads as image-reads
-use Rattle.fitting.proofs.inner.sets.lead.Reads as lead-reads
 
--- src/inner/window.rt:33:9
 image-requires : tie.Need-image-requires
 image-requires c κs = search needs
 
--- src/inner/window.rt:33:9
 returns : tie.Need-returns
 returns c = λ s k. let a = c .before .before .before .args in here-last (now (a .next)) s (now (a .letters)) (a .o) (Has (a .set)) (now (a .after)) (c .before .if1 .taken) (c .image .ensures)
 
--- src/inner/window.rt:35:36
 lead-requires : tie.Need-lead-requires
 lead-requires c κs = search needs
 
--- src/inner/window.rt:35:5
 between-requires : tie.Need-between-requires
 between-requires c κs = search needs
 
--- src/inner/window.rt:21:1
 returns-2 : tie.Need-returns-2
 returns-2 c = λ s k. let p = c .before .before .before .before in let a = p .args in here-between (now (a .next)) s (now (a .letters)) (a .o) (Has (a .set)) (now (a .after)) (now (a .predecessors)) k (p .pre .after-letters) (c .before .lead .ensures) (c .between .ensures)
 
