@@ -3,4 +3,3 @@ pub mod bytes; // bytes.rt: a byte of a slice as a number, a test of letters
 pub mod big_endian; // big_endian.rt: a number written as bytes
 pub mod file; // file.rt: refusals 1 to 6
 pub mod tables; // tables.rt: Coder, its limits, its tables
-pub mod letters; // letters.rt: whether two input letters conflict

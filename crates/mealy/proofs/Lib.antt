@@ -19,7 +19,6 @@ pub mod Examples
 pub mod ComesBack
 pub mod Places
 pub mod Pigeonhole
-pub mod Starts
 pub mod SameSettings
 pub mod Words
 pub mod Members

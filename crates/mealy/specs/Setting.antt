@@ -25,11 +25,7 @@ Bounded S = (s : ℕ) → S .Start s → s < S .M .states
 abbrev pub anyState : Machine → Setting
 anyState M = record { M = M; Start = λ s. s < M .states; Conflict = λ i j. i ≢ j }
 
--- The same with the start states as a list of flags: those whose flag is 1. The functions on tables take the start states so.
-abbrev pub flagged : Machine → List ℕ → Setting
-flagged M flags = record { M = M; Start = λ s. (s < M .states) × (getD flags s 0 ≡ 1); Conflict = λ i j. i ≢ j }
-
--- The same with both as data: the start states as a word, and for each input letter the word of the letters that conflict with it.
+-- A setting as data: the start states as a word, and for each input letter the word of the letters that conflict with it.
 -- The functions on tables take them so.
 abbrev pub worded : Machine → ℕ → List ℕ → Setting
 worded M starts conflicts =

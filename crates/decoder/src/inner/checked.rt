@@ -24,7 +24,7 @@ pub fn window(file: &[u8], w: Window, received: &[u8]) -> fitting::Answer
     let c = Coder::from_checked(file);
     let starts = start_states(c);
     let sets = of_coder(c);
-    let b = w.before;
+    let place = w.before;
     decode(
         &c.next,
         &sets.successors,
@@ -32,7 +32,7 @@ pub fn window(file: &[u8], w: Window, received: &[u8]) -> fitting::Answer
         &sets.letters,
         starts,
         received,
-        b,
+        place,
     )
 }
 
@@ -44,7 +44,7 @@ pub fn string(file: &[u8], w: Window, received: &[u8], output: &mut [u8]) -> usi
     let c = Coder::from_checked(file);
     let starts = start_states(c);
     let sets = of_coder(c);
-    let b = w.before;
+    let present = w.before;
     let n = sizes::letters(w);
     let count = sizes::places(received.len(), w);
     decode_places(
@@ -54,7 +54,7 @@ pub fn string(file: &[u8], w: Window, received: &[u8], output: &mut [u8]) -> usi
         &sets.letters,
         starts,
         received,
-        b,
+        present,
         n,
         count,
         output,

@@ -33,7 +33,7 @@ use Rattle.decoder.specs.Places.{places, stringRefusalIn, StringPromise}
 use Rattle.decoder.specs.declared.CountResult.{CountResult}
 use Rattle.decoder.specs.declared.CountResult.the-variants.{Done}
 use Rattle.decoder.proofs.ComeBack.{string-comes-back}
-use Rattle.joined.specs.RoundTrip.{RoundTrip}
+use Rattle.theorems.specs.RoundTrip.{RoundTrip}
 
 -- ---- letters
 

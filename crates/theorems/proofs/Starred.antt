@@ -30,9 +30,9 @@ use Rattle.decoder.specs.Refusal.{tableSize}
 use Rattle.filling.specs.Table.{windowAt}
 use Rattle.decoder.proofs.Decoding.{startsOf, file-right}
 use Rattle.filling.proofs.Indices.{length-window}
-use Rattle.joined.specs.Starred as claimed
-use Rattle.joined.specs.Starred.{Claim, Case, Holds, AllHold, AllCases, starred}
-use Rattle.joined.proofs.Tests.{sameList, same-list, allWords, agree, worksTest, later, leastTest, least-test, closesTest, validTest, valid-test, differentTest, different-test}
+use Rattle.theorems.specs.Starred as claimed
+use Rattle.theorems.specs.Starred.{Claim, Case, Holds, AllHold, AllCases, starred}
+use Rattle.theorems.proofs.Tests.{sameList, same-list, allWords, agree, worksTest, later, leastTest, least-test, closesTest, validTest, valid-test, differentTest, different-test}
 
 -- ---- the test of a claim
 
