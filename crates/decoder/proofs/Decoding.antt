@@ -8,6 +8,7 @@ use lib.Seq.{drop-at}
 use Rattle.mealy.specs.Setting.{anyState}
 use Rattle.mealy.specs.Word.{Holds}
 use Rattle.coder.specs.File.{fileRefusal, outputsOf, machineOf, settingOf}
+use Rattle.coder.specs.Limits.{maxStates}
 use Rattle.coder.specs.Table.{coderOf, Sound}
 use Rattle.coder.specs.declared.inner.tables.Coder.{Coder}
 use Rattle.coder.proofs.Accepted.{accepted}
@@ -60,7 +61,7 @@ module _ {c : Coder} {f : List ℕ} (h : CoderOf c f) where
       Rowed (c .output) (c .states) (c .inputs) (record { start = start; entries = entries }) → RowsOf c start entries
   rows-of k = record { sound = sound-of; rowed = k }
 
-  pub next-of : (p : ℕ) → getD (c .next) p 0 < 16
+  pub next-of : (p : ℕ) → getD (c .next) p 0 < maxStates
   next-of p = omega (arith, next-high c sound-of p, sound-of .states-high)
 
   -- its setting is the file's

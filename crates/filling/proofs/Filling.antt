@@ -29,7 +29,7 @@ use Rattle.filling.specs.Sets.{advance, startSets, RowsOf, RowsAsked}
 use Rattle.filling.specs.Table.{windowAt, FillAsked, TableFilled, PartAsked, PartFilled, LastAsked, LastFilled}
 use Rattle.filling.proofs.Steps.{startSet}
 use Rattle.filling.proofs.Sets.{advance-holds, sets-hold}
-use Rattle.filling.proofs.Runs.{Within, from-after, after-from, from-all, all-from, from-map, startingSets, from-fits, fits-from}
+use Rattle.filling.proofs.Runs.{WithinStates, from-after, after-from, from-all, all-from, from-map, startingSets, from-fits, fits-from}
 use Rattle.filling.proofs.Indices.{length-window, window-digits}
 
 byte-map :
@@ -39,7 +39,7 @@ byte-map f g h = record { word = h .word; holds = holds-map f g (h .holds); byte
 power-one : (o : ℕ) → o ^ 1 ≡ o
 power-one o = pow-suc o 0 ∙ rw (pow-zero o) (omega arith)
 
-sets-within : (c : Coder) (v : List ℕ) → Within (machineOfCoder c) (SetsIn c v)
+sets-within : (c : Coder) (v : List ℕ) → WithinStates (machineOfCoder c) (SetsIn c v)
 sets-within c v s x q = q .0
 
 -- what filling a part is asked suffices for the functions that it calls

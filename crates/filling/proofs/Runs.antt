@@ -31,8 +31,8 @@ module _ (M : Machine) (Q : Sets) where
       (z, rw (ne-eqb (suc (suc p)) 1 (λ (e : suc (suc p) ≡ 1). omega arith)) at g, refl)
 
   -- every state that has a letter is a state of the machine
-  abbrev pub Within : Type 0
-  Within = (s x : ℕ) → Q s x → s < M .states
+  abbrev pub WithinStates : Type 0
+  WithinStates = (s x : ℕ) → Q s x → s < M .states
 
   module _ (o : ℕ) (w : List ℕ) (p x : ℕ) where
     abbrev Q′ : Sets
@@ -52,7 +52,7 @@ module _ (M : Machine) (Q : Sets) where
           letter = f .letter ∙ g .2;
         }
 
-    pub after-from : Within → From M Q (o ∷ w) p x → From M Q′ w (pred p) x
+    pub after-from : WithinStates → From M Q (o ∷ w) p x → From M Q′ w (pred p) x
     after-from h f = go (f .xs) (f .letters) (f .outputs) (f .letter)
       where
         go :

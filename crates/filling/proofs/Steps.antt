@@ -23,16 +23,16 @@ abbrev pub startSet : ℕ → ℕ → ℕ
 startSet starts s = starts / 2 ^ s % 2
 
 -- the first s are made
-pub record Started (starts s : ℕ) (v : List ℕ) : Type 0 where
+pub record StartSetsMade (starts s : ℕ) (v : List ℕ) : Type 0 where
   pub size : length v ≡ 16
   pub is : (j : ℕ) → j < s → getD v j 0 ≡ startSet starts j
 
 module _ {starts : ℕ} where
-  pub started-none : Started starts 0 (replicate 16 0)
-  started-none = record { size = refl; is = λ j l. absurd (omega arith) }
+  pub start-sets-none : StartSetsMade starts 0 (replicate 16 0)
+  start-sets-none = record { size = refl; is = λ j l. absurd (omega arith) }
 
-  pub started-more : {s : ℕ} {v : List ℕ} → Started starts s v → s < 16 → Started starts (s + 1) (set v s (startSet starts s))
-  started-more {s} {v} a l =
+  pub start-sets-more : {s : ℕ} {v : List ℕ} → StartSetsMade starts s v → s < 16 → StartSetsMade starts (s + 1) (set v s (startSet starts s))
+  start-sets-more {s} {v} a l =
       let z = a .size in
       let u = startSet starts s in
       record {
@@ -43,8 +43,8 @@ module _ {starts : ℕ} where
             (getD-set-same v s u 0 (omega arith));
       }
 
-  pub started-all : {s : ℕ} {v : List ℕ} → Started starts s v → 16 ≤ s → v ≡ startSets starts
-  started-all {s} {v} a l =
+  pub start-sets-all : {s : ℕ} {v : List ℕ} → StartSetsMade starts s v → 16 ≤ s → v ≡ startSets starts
+  start-sets-all {s} {v} a l =
       let g = startSet starts in
       let z = a .size in
       ext-getD 0 v (table 16 g) (a .size ∙ sym (length-table 16 g))

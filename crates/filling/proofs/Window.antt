@@ -22,7 +22,7 @@ use Rattle.filling.specs.Runs.{Sets, SetAfter, From}
 use Rattle.filling.specs.Sets.{advance, startSets}
 use Rattle.filling.specs.Window.{pass, unionOf, decoded}
 use Rattle.filling.proofs.Sets.{advance-holds}
-use Rattle.filling.proofs.Runs.{Within, from-after, after-from, from-all, all-from, startingSets, from-fits, fits-from}
+use Rattle.filling.proofs.Runs.{WithinStates, from-after, after-from, from-all, all-from, startingSets, from-fits, fits-from}
 use Rattle.filling.proofs.Filling.{start-holds}
 
 -- one state more
@@ -80,7 +80,7 @@ holds-union-of Q v (suc n) h =
 
 module _ (c : Coder) (sound : Sound c) where
   pass-holds :
-      (w v : List ℕ) (p : ℕ) (Q : Sets) → Within (machineOfCoder c) Q → ((s : ℕ) → s < c .states → Holds (Q s) (getD v s 0)) →
+      (w v : List ℕ) (p : ℕ) (Q : Sets) → WithinStates (machineOfCoder c) Q → ((s : ℕ) → s < c .states → Holds (Q s) (getD v s 0)) →
       p ≤ length w → Holds (From (machineOfCoder c) Q w p) (unionOf (c .states) (pass c (c .next) v w p))
   unfolding pass
   pass-holds [] v p Q h k l =
