@@ -152,7 +152,7 @@ pub extern "C" fn lowhenita_table(
     if k != 0 {
         return k;
     }
-    let count = decoder::inner::checked::table(file, w, table);
-    layout::inner::put_one(result, count);
+    let size = decoder::inner::checked::table(file, w, table);
+    layout::inner::put_one(result, size);
     0
 }

@@ -47,7 +47,11 @@ returns-2 c =
     let e = v .before in
     hosted-done (via (e .before .window .ensures) (e .if1 .left)) (record {
       byte = n .number .result;
-      right = record { answer = meaning (v .window2 .result); right = v .window2 .ensures; byte = n .number .ensures .0 ∙ b .answer-byte .ensures };
+      right = record {
+        answer = meaning (v .window2 .result);
+        right = v .window2 .ensures;
+        byte = n .number .ensures .0 ∙ b .answer-byte .ensures;
+      };
       fields = p .put-one .ensures;
     })
 
