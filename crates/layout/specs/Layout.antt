@@ -7,6 +7,10 @@ use Rattle.coder.specs.BigEndian.{bigEndian}
 use Rattle.search.specs.declared.Verdict.{Verdict}
 use Rattle.search.specs.declared.Verdict.the-variants.{Least, NoDecoder}
 
+-- The bytes of the result buffer that each call wants.
+abbrev pub resultBytes : ℕ
+resultBytes = 64
+
 -- A number in 8 bytes, big-endian.
 abbrev pub field : ℕ → List ℕ
 field x = bigEndian 8 x

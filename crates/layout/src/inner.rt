@@ -4,7 +4,7 @@ ghost use mathlib.Core.List.{[], _∷_};
 ghost use Prim.Native.Nat.{_+_, _*_, _≤_};
 ghost use lib.ListN.{length};
 ghost use lib.Seq.{sets};
-ghost use Rattle.layout.specs.Layout.{field, withFields, verdictFields, numberOf};
+ghost use Rattle.layout.specs.Layout.{resultBytes, field, withFields, verdictFields, numberOf};
 
 // Writes x into field k.
 fn put_field(result: &mut [u8], k: usize, x: usize)
@@ -28,7 +28,7 @@ pub fn put_fields(result: &mut [u8], numbers: &[usize])
 
 // One field.
 pub fn put_one(result: &mut [u8], x: usize)
-    requires { ⌜ 64 ≤ length (now result) ⌝ }
+    requires { ⌜ resultBytes ≤ length (now result) ⌝ }
     ensures { λ _. ⌜ now (result .exit) ≡ withFields (now (result .entry)) (x ∷ []) ⌝ }
 {
     let numbers = [x];
@@ -37,7 +37,7 @@ pub fn put_one(result: &mut [u8], x: usize)
 
 // Two fields.
 pub fn put_two(result: &mut [u8], x: usize, y: usize)
-    requires { ⌜ 64 ≤ length (now result) ⌝ }
+    requires { ⌜ resultBytes ≤ length (now result) ⌝ }
     ensures { λ _. ⌜ now (result .exit) ≡ withFields (now (result .entry)) (x ∷ y ∷ []) ⌝ }
 {
     let numbers = [x, y];
@@ -46,7 +46,7 @@ pub fn put_two(result: &mut [u8], x: usize, y: usize)
 
 // The fields of a verdict.
 pub fn put_verdict(result: &mut [u8], verdict: search::Verdict)
-    requires { ⌜ 64 ≤ length (now result) ⌝ }
+    requires { ⌜ resultBytes ≤ length (now result) ⌝ }
     ensures { λ _. ⌜ now (result .exit) ≡ withFields (now (result .entry)) (verdictFields verdict) ⌝ }
 {
     match verdict {

@@ -1,7 +1,7 @@
 -- The calls from C: their promises from what they were told, and what a call that is not refused may rely on.
 use mathlib.Core.Path.{_≡_, refl, sym, ap, _∙_}
 use mathlib.Core.Bool.{Bool, true, false, not, _&&_}
-use mathlib.Core.List.{List}
+use mathlib.Core.List.{List, [], _∷_}
 use Prim.Native.Nat.{ℕ, _*_, _≤_}
 use native.Mathlib.Omega.{arith}
 use lib.ListN.{length}
@@ -14,6 +14,7 @@ use Rattle.coder.proofs.Refusals.{both-true, refuse-not, first-none, upon-refus
 use Rattle.running.specs.Run.{RunAsked}
 use Rattle.running.proofs.Running.{run-accepted, asked}
 use Rattle.values.specs.declared.Window.{Window}
+use Rattle.decoder.specs.Count.{CountGiven}
 use Rattle.decoder.specs.Refusal.{windowRefusal}
 use Rattle.decoder.specs.Places.{StringAsked}
 use Rattle.decoder.specs.Table.{TableAsked}
@@ -21,7 +22,8 @@ use Rattle.decoder.proofs.Accepting.{window-accepted, string-asked, string-othe
 use Rattle.search.specs.Search.{searchRefusal, wanted}
 use Rattle.search.proofs.Files.{search-accepted}
 use Rattle.checker.specs.Check.{checkRefusal}
-use Rattle.lowhenita.specs.Host.{roomy, Hosted, runNumber, searchNumber, decodeNumber, tableNumber, checkNumber, windowNumber}
+use Rattle.layout.specs.Layout.{resultBytes, withFields}
+use Rattle.lowhenita.specs.Host.{roomy, Hosted, runNumber, searchNumber, BytesGiven, decodeNumber, tableNumber, checkNumber, windowNumber}
 
 -- ---- the promise of a call
 
@@ -31,11 +33,17 @@ hosted-refused e h s = record { number = e; outcome = upon-refused _ _ _ e h s }
 pub hosted-done : {k : ℕ} {Stays Given : Type 0} → k ≡ 0 → Given → Hosted k 0 Stays Given
 hosted-done e g = record { number = sym e; outcome = upon-done _ _ _ e g }
 
--- ---- a call that is not refused: what its checked part asks, and a result buffer of at least 64 bytes
+-- calls that write bytes and put their number into field 0
+pub bytes-done :
+    {n count : ℕ} {Q : ℕ → ℕ → Type 0} {before result after result′ : List ℕ} → CountGiven n Q before count after →
+    result′ ≡ withFields result (count ∷ []) → BytesGiven n Q before result after result′
+bytes-done g e = record { bytes = g .bytes; fields = rw (g .counted) at e }
+
+-- ---- a call that is not refused: what its checked part asks, and a result buffer that is long enough
 
 pub record Accepted (Asked : Type 0) (result : List ℕ) : Type 0 where
   pub asked : Asked
-  pub room : 64 ≤ length result
+  pub room : resultBytes ≤ length result
 
 pub accepted-run :
     (f : List ℕ) (s : ℕ) (xs before result : List ℕ) → runNumber f s xs before result ≡ 0 → Accepted (RunAsked f s xs before) result

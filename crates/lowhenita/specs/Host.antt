@@ -23,11 +23,11 @@ use Rattle.decoder.specs.Table.{tableRefusalIn, EntryOf}
 use Rattle.search.specs.Search.{searchRefusal, wanted, order, Says}
 use Rattle.search.specs.declared.Verdict.{Verdict}
 use Rattle.checker.specs.Check.{checkRefusal}
-use Rattle.layout.specs.Layout.{withFields, verdictFields, numberOf}
+use Rattle.layout.specs.Layout.{resultBytes, withFields, verdictFields, numberOf}
 
--- The result buffer has at least 64 bytes; shorter is refusal 11, in its place among the refusals.
+-- The result buffer is long enough; shorter is refusal 11, in its place among the refusals.
 abbrev pub roomy : List ℕ → Bool
-roomy result = leb 64 (length result)
+roomy result = leb resultBytes (length result)
 
 -- What a call whose refusal is k returns and leaves: the number k; Stays where that is a refusal, and Given where it is 0.
 pub record Hosted (k r : ℕ) (Stays Given : Type 0) : Type 0 where

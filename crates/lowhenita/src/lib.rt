@@ -4,14 +4,15 @@ ghost use mathlib.Core.Path.{_≡_};
 ghost use lib.Dec.{leb};
 ghost use Rattle.values.specs.Window.{window};
 ghost use Rattle.values.specs.Pair.{pairOf, loopedPair};
+ghost use Rattle.layout.specs.Layout.{resultBytes};
 ghost use Rattle.lowhenita.specs.Host.{RunHosted, SearchHosted, DecodeHosted, CheckHosted, WindowHosted, TableHosted};
 
 // The bytes of the result buffer that each call wants.
 const RESULT: usize = 64;
 
-// Whether n bytes fit into a lent buffer of `room` bytes, and the result buffer has as many bytes as each call wants.
+// Whether n bytes fit into a lent buffer of `room` bytes, and a result buffer of `result` bytes is long enough.
 fn both_fit(n: usize, room: usize, result: usize) -> bool
-    ensures { λ r. ⌜ r ≡ (leb n room && leb 64 result) ⌝ }
+    ensures { λ r. ⌜ r ≡ (leb n room && leb resultBytes result) ⌝ }
 {
     if n <= room {
         return RESULT <= result;

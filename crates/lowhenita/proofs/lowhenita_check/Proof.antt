@@ -13,15 +13,15 @@ use Rattle.lowhenita.proofs.lowhenita_check.Tie as tie
 check-requires : tie.Need-check-requires
 check-requires c κs = search needs
 
+returns : tie.Need-returns
+returns c = hosted-refused (c .before .check .ensures) (c .if1 .taken) refl
+
 accepted :
     (c : tie.Else1) →
     let a = c .before .before .before .before .before .args in
     let pair = loopedPair (a .s) (a .t) (a .back-loop) (a .lead-in) (a .lead-out) (a .forward-loop) in
     Accepted (checkRefusal (now (a .file)) (pairOf pair (now (a .letters))) true ≡ 0) (now (a .result))
 accepted c = accepted-check _ _ _ (via (c .before .check .ensures) (c .if1 .left))
-
-returns : tie.Need-returns
-returns c = hosted-refused (c .before .check .ensures) (c .if1 .taken) refl
 
 checked-requires : tie.Need-checked-requires
 checked-requires c κs = accepted c .asked

@@ -5,21 +5,21 @@ use denote.Ref.{now}
 use Rattle.coder.proofs.Refusals.{via}
 use Rattle.values.specs.Window.{window}
 use Rattle.decoder.specs.Places.{StringAsked}
-use Rattle.lowhenita.proofs.Handing.{hosted-refused, hosted-done, Accepted, accepted-decode}
+use Rattle.lowhenita.proofs.Handing.{hosted-refused, hosted-done, bytes-done, Accepted, accepted-decode}
 use Rattle.lowhenita.proofs.lowhenita_decode.Statement.{statement}
 use Rattle.lowhenita.proofs.lowhenita_decode.Tie as tie
 
 string-requires : tie.Need-string-requires
 string-requires c κs = search needs
 
+returns : tie.Need-returns
+returns c = hosted-refused (c .before .string .ensures) (c .if1 .taken) (record { bytes = refl; fields = refl })
+
 accepted :
     (c : tie.Else1) →
     let a = c .before .before .before .before .before .before .args in
     Accepted (StringAsked (now (a .file)) (window (a .before) (a .after)) (now (a .received)) (now (a .output))) (now (a .result))
 accepted c = accepted-decode _ _ _ _ _ (via (c .before .string .ensures) (c .if1 .left))
-
-returns : tie.Need-returns
-returns c = hosted-refused (c .before .string .ensures) (c .if1 .taken) (record { bytes = refl; fields = refl })
 
 string-requires-2 : tie.Need-string-requires-2
 string-requires-2 c κs = accepted (c .before) .asked
@@ -37,10 +37,8 @@ returns-2 : tie.Need-returns-2
 returns-2 c =
     let v = c .before .before .before .before .before .before in
     let e = v .before .before in
-    hosted-done (via (e .before .string .ensures) (e .if1 .left)) (record {
-      bytes = v .string2 .ensures .bytes;
-      fields = rw (v .string2 .ensures .counted) at (c .before .before .put-one .ensures);
-    })
+    hosted-done (via (e .before .string .ensures) (e .if1 .left))
+    (bytes-done (v .string2 .ensures) (c .before .before .put-one .ensures))
 
 pub lowhenita-decode-spec : {M : Type 1} → statement M
 lowhenita-decode-spec =

@@ -21,14 +21,14 @@ told :
     c .refusal .result ≡ runNumber (now (a .file)) (a .start) (now (a .input)) (now (a .output)) (now (a .result))
 told c = rw (c .before .both-fit .ensures) at (c .refusal .ensures)
 
+returns : tie.Need-returns
+returns c = hosted-refused (told (c .before)) (c .if1 .taken) (record { bytes = refl; fields = refl })
+
 accepted :
     (c : tie.Else1) →
     let a = c .before .before .before .before .before .before .before .args in
     Accepted (RunAsked (now (a .file)) (a .start) (now (a .input)) (now (a .output))) (now (a .result))
 accepted c = accepted-run _ _ _ _ _ (via (told (c .before)) (c .if1 .left))
-
-returns : tie.Need-returns
-returns c = hosted-refused (told (c .before)) (c .if1 .taken) (record { bytes = refl; fields = refl })
 
 checked-requires : tie.Need-checked-requires
 checked-requires c κs = accepted (c .before) .asked

@@ -23,6 +23,9 @@ told :
     c .refusal .result ≡ searchNumber (now (a .file)) (now (a .letters)) (now (a .result))
 told c = rw (c .before .both-fit .ensures) at (c .refusal .ensures)
 
+returns : tie.Need-returns
+returns c = hosted-refused (told (c .before)) (c .if1 .taken) (record { bytes = refl; fields = refl })
+
 accepted :
     (c : tie.Else1) →
     let a = c .before .before .before .before .before .before .args in
@@ -30,9 +33,6 @@ accepted :
 accepted c =
     let a = c .before .before .before .before .before .before .args in
     accepted-search (now (a .file)) (now (a .letters)) (now (a .result)) (via (told (c .before)) (c .if1 .left))
-
-returns : tie.Need-returns
-returns c = hosted-refused (told (c .before)) (c .if1 .taken) (record { bytes = refl; fields = refl })
 
 checked-requires : tie.Need-checked-requires
 checked-requires c κs = accepted (c .before) .asked

@@ -5,21 +5,21 @@ use denote.Ref.{now}
 use Rattle.coder.proofs.Refusals.{via}
 use Rattle.values.specs.Window.{window}
 use Rattle.decoder.specs.Table.{TableAsked}
-use Rattle.lowhenita.proofs.Handing.{hosted-refused, hosted-done, Accepted, accepted-table}
+use Rattle.lowhenita.proofs.Handing.{hosted-refused, hosted-done, bytes-done, Accepted, accepted-table}
 use Rattle.lowhenita.proofs.lowhenita_table.Statement.{statement}
 use Rattle.lowhenita.proofs.lowhenita_table.Tie as tie
 
 table-requires : tie.Need-table-requires
 table-requires c κs = search needs
 
+returns : tie.Need-returns
+returns c = hosted-refused (c .before .table .ensures) (c .if1 .taken) (record { bytes = refl; fields = refl })
+
 accepted :
     (c : tie.Else1) →
     let a = c .before .before .before .before .before .args in
     Accepted (TableAsked (now (a .file)) (window (a .before) (a .after)) (now (a .table))) (now (a .result))
 accepted c = accepted-table _ _ _ _ (via (c .before .table .ensures) (c .if1 .left))
-
-returns : tie.Need-returns
-returns c = hosted-refused (c .before .table .ensures) (c .if1 .taken) (record { bytes = refl; fields = refl })
 
 table-requires-2 : tie.Need-table-requires-2
 table-requires-2 c κs = accepted (c .before) .asked
@@ -37,10 +37,8 @@ returns-2 : tie.Need-returns-2
 returns-2 c =
     let v = c .before .before .before .before .before .before in
     let e = v .before .before in
-    hosted-done (via (e .before .table .ensures) (e .if1 .left)) (record {
-      bytes = v .table2 .ensures .bytes;
-      fields = rw (v .table2 .ensures .counted) at (c .before .before .put-one .ensures);
-    })
+    hosted-done (via (e .before .table .ensures) (e .if1 .left))
+    (bytes-done (v .table2 .ensures) (c .before .before .put-one .ensures))
 
 pub lowhenita-table-spec : {M : Type 1} → statement M
 lowhenita-table-spec =

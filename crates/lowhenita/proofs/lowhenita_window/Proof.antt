@@ -14,14 +14,14 @@ use Rattle.lowhenita.proofs.lowhenita_window.Tie as tie
 window-requires : tie.Need-window-requires
 window-requires c κs = search needs
 
+returns : tie.Need-returns
+returns c = hosted-refused (c .before .window .ensures) (c .if1 .taken) refl
+
 accepted :
     (c : tie.Else1) →
     let a = c .before .before .before .before .before .args in
     Accepted (windowRefusal (now (a .file)) (window (a .before) (a .after)) (now (a .received)) true ≡ 0) (now (a .result))
 accepted c = accepted-window _ _ _ _ (via (c .before .window .ensures) (c .if1 .left))
-
-returns : tie.Need-returns
-returns c = hosted-refused (c .before .window .ensures) (c .if1 .taken) refl
 
 window-requires-2 : tie.Need-window-requires-2
 window-requires-2 c κs = accepted c .asked
