@@ -4,7 +4,7 @@ use mathlib.Core.Bool.{true, false}
 use mathlib.Core.List.{List, [], _∷_}
 use Prim.Native.Nat.{ℕ}
 use native.Mathlib.Omega.{arith}
-use Rattle.mealy.specs.LoopedPair.{LoopedPair, first, second, inputsOf, Valid}
+use Rattle.mealy.specs.LoopedPair.{LoopedPair, first, second, runInputs, Valid}
 use Rattle.coder.specs.Refusal.{allBelow}
 use Rattle.coder.specs.File.{within, inRange, entryInRange, entriesRefusal, fileRefusal, entryOf, machineOf, settingOf}
 use Rattle.coder.proofs.Refusals.{letters-below}
@@ -41,7 +41,7 @@ unfolding machineOf entryOf
 C-valid = record {
   held = omega arith;
   start = λ r. elim r [ first ↦ omega arith | second ↦ omega arith ];
-  below = λ r. elim r [ first ↦ letters-below 2 (inputsOf pairC first) refl | second ↦ letters-below 2 (inputsOf pairC second) refl ];
+  below = λ r. elim r [ first ↦ letters-below 2 (runInputs pairC first) refl | second ↦ letters-below 2 (runInputs pairC second) refl ];
   back-letter = omega arith;
   forward-letter = omega arith;
   outputs = refl;

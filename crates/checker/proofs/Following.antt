@@ -17,14 +17,14 @@ use Rattle.coder.specs.Limits.{maxStates}
 use Rattle.coder.specs.Table.{tableAt, machineOfCoder}
 use Rattle.coder.specs.declared.inner.tables.Coder.{Coder}
 use Rattle.coder.proofs.Refusals.{true-false}
-use Rattle.checker.specs.Follow.{TablesOf, FollowAsked, Follows}
+use Rattle.checker.specs.Follow.{PairTables, FollowAsked, Follows}
 
 -- the first run's letter stands at the even place
 pub letter-first : (p : LoopedPair) (place x : ℕ) → x ≡ getD (p .bytes) (2 * place) 0 → x ≡ letterAt p first place
 letter-first p place x e = let z : 2 * place + 0 ≡ 2 * place = omega arith in rw z e
 
 -- the two letters of a place as bytes, and what the tables hold for them
-module _ {c : Coder} {p : LoopedPair} {next output bytes : List ℕ} (w : TablesOf c p next output bytes) (place u v : ℕ)
+module _ {c : Coder} {p : LoopedPair} {next output bytes : List ℕ} (w : PairTables c p next output bytes) (place u v : ℕ)
     {i j x y : ℕ} (ei : i ≡ getD bytes (2 * place) 0) (ej : j ≡ getD bytes (2 * place + 1) 0)
     (ex : x ≡ tableAt output u i) (ey : y ≡ tableAt output v j) where
   first-is : i ≡ letterAt p first place

@@ -14,7 +14,7 @@ use Rattle.coder.specs.declared.inner.tables.Coder.{Coder}
 use Rattle.checker.specs.declared.inner.follow.Followed.{Followed}
 
 -- The tables are those of the coder c, and the bytes are those of the pair p and input letters of c.
-pub record TablesOf (c : Coder) (p : LoopedPair) (next output bytes : List ℕ) : Type 0 where
+pub record PairTables (c : Coder) (p : LoopedPair) (next output bytes : List ℕ) : Type 0 where
   pub sound : Sound c
   pub next-is : c .next ≡ next
   pub output-is : c .output ≡ output
@@ -25,7 +25,7 @@ pub record TablesOf (c : Coder) (p : LoopedPair) (next output bytes : List ℕ) 
 pub record FollowAsked (next output bytes : List ℕ) (s t place n : ℕ) : Type 0 where
   pub c : Coder
   pub p : LoopedPair
-  pub tables : TablesOf c p next output bytes
+  pub tables : PairTables c p next output bytes
   pub first : s < c .states
   pub second : t < c .states
   pub within : 2 * (place + n) ≤ length bytes
@@ -37,7 +37,7 @@ pub record Follows (M : Machine) (p : LoopedPair) (s t place n : ℕ) (r : Follo
 
 -- The tables are those of the coder c, and the pair is one that is not refused for c.
 pub record CheckOf (c : Coder) (next output : List ℕ) (p : LoopedPair) : Type 0 where
-  pub tables : TablesOf c p next output (p .bytes)
+  pub tables : PairTables c p next output (p .bytes)
   pub first : p .s < c .states
   pub second : p .t < c .states
   pub size : length (p .bytes) ≡ 2 * letters p

@@ -21,21 +21,21 @@ use Rattle.setting.specs.Words.{settingOfCoder}
 use Rattle.fitting.specs.Answer.{Right, answerOf}
 use Rattle.fitting.specs.declared.Answer.{Answer}
 use Rattle.fitting.proofs.Answers.{holds-right}
-use Rattle.fitting.specs.Tables.{partOf, partsOf, GivenBelow, EntriesAsked, Leads, OnLetter, FittingIn, TablesAsked, TablesOf}
+use Rattle.fitting.specs.Tables.{placePart, placeParts, GivenBelow, EntriesAsked, Leads, OnLetter, FittingIn, TablesAsked, TablesOf}
 
 -- what making the tables asks, of a sound coder
-part-low : (letters : Bool) (p : ℕ) → p < 256 → partOf letters p < 16
+part-low : (letters : Bool) (p : ℕ) → p < 256 → placePart letters p < 16
 part-low true p l = omega arith
 part-low false p l = omega arith
 
-pub parts-high : (letters : Bool) (p : ℕ) → getD (partsOf letters) p 0 < 16
+pub parts-high : (letters : Bool) (p : ℕ) → getD (placeParts letters) p 0 < 16
 parts-high letters p =
     elim (decLt p 256) [
-      | yes l ↦ rw (getD-table 256 (partOf letters) p l) (part-low letters p l)
+      | yes l ↦ rw (getD-table 256 (placePart letters) p l) (part-low letters p l)
       | no l ↦
-          let n = length-table 256 (partOf letters) in
-          let m : length (partsOf letters) ≤ p = omega arith in
-          rw (List·getD-eq-default (partsOf letters) 0 m) (omega arith)
+          let n = length-table 256 (placePart letters) in
+          let m : length (placeParts letters) ≤ p = omega arith in
+          rw (List·getD-eq-default (placeParts letters) 0 m) (omega arith)
     ]
 
 module _ {c : Coder} (s : Sound c) where
@@ -86,8 +86,8 @@ module _ (c : Coder) (sound : Sound c) where
       }
 
   -- the parts of a place
-  part-at : (letters : Bool) (p : ℕ) → p < 16 * c .states → getD (partsOf letters) p 0 ≡ partOf letters p
-  part-at letters p l = let h = sound .states-high in getD-table 256 (partOf letters) p (omega arith)
+  part-at : (letters : Bool) (p : ℕ) → p < 16 * c .states → getD (placeParts letters) p 0 ≡ placePart letters p
+  part-at letters p l = let h = sound .states-high in getD-table 256 (placePart letters) p (omega arith)
 
 module _ {c : Coder} {next successors predecessors letters : List ℕ} {starts : ℕ}
     (k : TablesOf c next successors predecessors letters starts) where
@@ -98,7 +98,7 @@ module _ {c : Coder} {next successors predecessors letters : List ℕ} {starts :
   leads-successor o s t l h =
       let g = holds-member (k .sets .successors-are .holds o s l (h .0)) t (h .1) in
       let e : g .p / 16 ≡ s = sym (part-at c (k .sound) false (g .p) (g .below)) ∙ g .key in
-      record { x = g .p % 16; entry = rw (g .gives .1, e) at (place-entry c (k .sound) (partsOf false) (c .next) g) }
+      record { x = g .p % 16; entry = rw (g .gives .1, e) at (place-entry c (k .sound) (placeParts false) (c .next) g) }
 
   module _ (o s t : ℕ) (l : o < 64) (e : Successor N o s t) where
     abbrev x : ℕ
@@ -116,22 +116,22 @@ module _ {c : Coder} {next successors predecessors letters : List ℕ} {starts :
     in-table : 16 * s + x < 16 * c .states
     in-table = let m = e .entry .state in let y = small in omega arith
 
-    state-at : getD (partsOf false) (16 * s + x) 0 ≡ s
+    state-at : getD (placeParts false) (16 * s + x) 0 ≡ s
     state-at = part-at c (k .sound) false (16 * s + x) in-table ∙ (let y = small in omega arith)
 
     successor-leads : Leads successors o s t
-    successor-leads = (low, k .sets .successors-are .holds o s l low .has t (entry-place c (k .sound) (partsOf false) (c .next) (e .entry) state-at at))
+    successor-leads = (low, k .sets .successors-are .holds o s l low .has t (entry-place c (k .sound) (placeParts false) (c .next) (e .entry) state-at at))
 
     successor-back : Leads predecessors o t s
     successor-back =
         let m : t < 16 = rw at at (next-low (k .sound) (16 * s + x)) in
-        (m, k .sets .predecessors-are .holds o t l m .has s (entry-place c (k .sound) (c .next) (partsOf false) (e .entry) at state-at))
+        (m, k .sets .predecessors-are .holds o t l m .has s (entry-place c (k .sound) (c .next) (placeParts false) (e .entry) at state-at))
 
   back-successor : (o s t : ℕ) → o < 64 → Leads predecessors o t s → Successor N o s t
   back-successor o s t l h =
       let g = holds-member (k .sets .predecessors-are .holds o t l (h .0)) s (h .1) in
       let e : g .p / 16 ≡ s = sym (part-at c (k .sound) false (g .p) (g .below)) ∙ g .gives .1 in
-      record { x = g .p % 16; entry = rw (g .key, e) at (place-entry c (k .sound) (c .next) (partsOf false) g) }
+      record { x = g .p % 16; entry = rw (g .key, e) at (place-entry c (k .sound) (c .next) (placeParts false) g) }
 
   pub tables-asked : TablesAsked next successors predecessors letters
   tables-asked =
@@ -151,7 +151,7 @@ module _ {c : Coder} {next successors predecessors letters : List ℕ} {starts :
       let f : g .p % 16 ≡ x = sym (part-at c (k .sound) true (g .p) (g .below)) ∙ g .gives .1 in
       let at : 16 * s + x ≡ g .p = omega arith in
       let to : getD (c .next) (g .p) 0 ≡ t = rw (k .next-is, at) at (h .to) in
-      rw (f, to, e) at (place-entry c (k .sound) (partsOf false) (partsOf true) g)
+      rw (f, to, e) at (place-entry c (k .sound) (placeParts false) (placeParts true) g)
 
   entry-on : (x o s t : ℕ) → o < 64 → Entry N x o s t → OnLetter next letters x o s t
   entry-on x o s t l e =
@@ -165,7 +165,7 @@ module _ {c : Coder} {next successors predecessors letters : List ℕ} {starts :
         state = b;
         letter =
             k .sets .letters-are .holds o s l b .has x
-            (entry-place c (k .sound) (partsOf false) (partsOf true) e
+            (entry-place c (k .sound) (placeParts false) (placeParts true) e
             (part-at c (k .sound) false (16 * s + x) in-table ∙ omega arith)
             (part-at c (k .sound) true (16 * s + x) in-table ∙ omega arith));
         to = rw (k .next-is) (table-place (c .next) s x (omega arith) ∙ e .to);

@@ -13,11 +13,11 @@ use Rattle.coder.specs.declared.inner.tables.Coder.{Coder}
 use Rattle.setting.specs.Words.{settingOfCoder}
 
 -- the state of each place of a coder's tables or, with `letters`, its input letter
-abbrev pub partOf : Bool → ℕ → ℕ
-partOf letters p = cond letters (p % 16) (p / 16)
+abbrev pub placePart : Bool → ℕ → ℕ
+placePart letters p = cond letters (p % 16) (p / 16)
 
-abbrev pub partsOf : Bool → List ℕ
-partsOf letters = table 256 (partOf letters)
+abbrev pub placeParts : Bool → List ℕ
+placeParts letters = table 256 (placePart letters)
 
 -- the entry at place p, if there is one, has the value x
 abbrev pub Gives : List ℕ → ℕ → ℕ → ℕ → Type 0
@@ -85,9 +85,9 @@ pub record PresentAsked (next predecessors letters : List ℕ) (o : ℕ) (after 
 
 -- the tables of the coder c by output letter
 pub record SetsOf (c : Coder) (successors predecessors letters : List ℕ) : Type 0 where
-  pub successors-are : ByOutput (partsOf false) (c .next) (c .output) (c .states) (c .inputs) successors
-  pub predecessors-are : ByOutput (c .next) (partsOf false) (c .output) (c .states) (c .inputs) predecessors
-  pub letters-are : ByOutput (partsOf false) (partsOf true) (c .output) (c .states) (c .inputs) letters
+  pub successors-are : ByOutput (placeParts false) (c .next) (c .output) (c .states) (c .inputs) successors
+  pub predecessors-are : ByOutput (c .next) (placeParts false) (c .output) (c .states) (c .inputs) predecessors
+  pub letters-are : ByOutput (placeParts false) (placeParts true) (c .output) (c .states) (c .inputs) letters
 
 -- the arrays that the functions inside take are those of the coder c
 pub record TablesOf (c : Coder) (next successors predecessors letters : List ℕ) (starts : ℕ) : Type 0 where

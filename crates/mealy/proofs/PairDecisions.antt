@@ -8,7 +8,7 @@ use native.Mathlib.Decide.{decLe, decLt, ℕ-discrete, map-dec}
 use lib.ListN.{length}
 use Rattle.mealy.specs.Machine.{outs, end, Letters}
 use Rattle.mealy.specs.Setting.{Setting}
-use Rattle.mealy.specs.LoopedPair.{LoopedPair, Run, first, second, letterAt, lettersFrom, mark, unlooped, letters, inputsOf, startOf, Valid}
+use Rattle.mealy.specs.LoopedPair.{LoopedPair, Run, first, second, letterAt, lettersFrom, mark, unlooped, letters, runInputs, startOf, Valid}
 
 nil-cons : {x : ℕ} {xs : List ℕ} → [] ≡ x ∷ xs → ⊥
 nil-cons e = let z : _≡_ {A = ℕ} 0 1 = cc in omega arith
@@ -47,11 +47,11 @@ dec-valid S start conflict p =
     (λ v. (v .held, (v .start, (v .below, (v .back-letter, (v .forward-letter, (v .outputs, (v .conflict, (v .back-closed, v .forward-closed)))))))))
     (Dec·and (decLe (2 * letters p) (length (p .bytes)))
     (Dec·and (dec-runs (λ r. start (startOf p r)))
-    (Dec·and (dec-runs (λ r. dec-letters (M .inputs) (inputsOf p r)))
+    (Dec·and (dec-runs (λ r. dec-letters (M .inputs) (runInputs p r)))
     (Dec·and (decLt 0 (p .back-loop))
     (Dec·and (decLt 0 (p .forward-loop))
-    (Dec·and (dec-equal (outs M (p .s) (inputsOf p first)) (outs M (p .t) (inputsOf p second)))
+    (Dec·and (dec-equal (outs M (p .s) (runInputs p first)) (outs M (p .t) (runInputs p second)))
     (Dec·and (conflict (letterAt p first (mark p)) (letterAt p second (mark p)))
     (Dec·and (dec-runs (λ r. ℕ-discrete (end M (startOf p r) (lettersFrom p r 0 (p .back-loop))) (startOf p r)))
     (dec-runs (λ r.
-    ℕ-discrete (end M (startOf p r) (inputsOf p r)) (end M (startOf p r) (lettersFrom p r 0 (unlooped p)))))))))))))
+    ℕ-discrete (end M (startOf p r) (runInputs p r)) (end M (startOf p r) (lettersFrom p r 0 (unlooped p)))))))))))))

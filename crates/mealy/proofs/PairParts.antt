@@ -7,7 +7,7 @@ use native.Mathlib.Omega.{arith}
 use lib.ListN.{length}
 use Rattle.mealy.specs.Machine.{Machine, end}
 use Rattle.mealy.specs.Setting.{Setting}
-use Rattle.mealy.specs.LoopedPair.{LoopedPair, Run, first, second, letterAt, lettersFrom, mark, unlooped, letters, inputsOf, startOf, Valid}
+use Rattle.mealy.specs.LoopedPair.{LoopedPair, Run, first, second, letterAt, lettersFrom, mark, unlooped, letters, runInputs, startOf, Valid}
 use Rattle.mealy.specs.Walk.{Walk, Part, Parts}
 use Rattle.mealy.proofs.Walks.{walk-append, walk-cut}
 
@@ -66,7 +66,7 @@ module _ (S : Setting) (p : LoopedPair) where
 
   pub valid→parts : Valid S p → ValidParts S p
   valid→parts v =
-      let whole : Part M p 0 (letters p) (p .s) (p .t) (end M (p .s) (inputsOf p first)) (end M (p .t) (inputsOf p second)) =
+      let whole : Part M p 0 (letters p) (p .s) (p .t) (end M (p .s) (runInputs p first)) (end M (p .t) (runInputs p second)) =
       record {
         equal = record {
           letters₁ = v .below first;

@@ -51,8 +51,8 @@ startOf p first = p .s
 startOf p second = p .t
 
 -- what a run reads: all letters of the pair
-abbrev pub inputsOf : LoopedPair → Run → List ℕ
-inputsOf p r = lettersFrom p r 0 (letters p)
+abbrev pub runInputs : LoopedPair → Run → List ℕ
+runInputs p r = lettersFrom p r 0 (letters p)
 
 -- Document 01's term "valid" ("Looped pair", the sentence that begins with it): the bytes hold all letters, both loops have a
 -- letter, outputs are equal at every place, the letters at the mark conflict, the back loop ends in (s, t), and the forward
@@ -60,14 +60,14 @@ inputsOf p r = lettersFrom p r 0 (letters p)
 pub record Valid (S : Setting) (p : LoopedPair) : Type 0 where
   pub held : 2 * letters p ≤ length (p .bytes)
   pub start : (r : Run) → S .Start (startOf p r)
-  pub below : (r : Run) → Letters (S .M .inputs) (inputsOf p r)
+  pub below : (r : Run) → Letters (S .M .inputs) (runInputs p r)
   pub back-letter : 0 < p .back-loop
   pub forward-letter : 0 < p .forward-loop
-  pub outputs : outs (S .M) (p .s) (inputsOf p first) ≡ outs (S .M) (p .t) (inputsOf p second)
+  pub outputs : outs (S .M) (p .s) (runInputs p first) ≡ outs (S .M) (p .t) (runInputs p second)
   pub conflict : S .Conflict (letterAt p first (mark p)) (letterAt p second (mark p))
   pub back-closed : (r : Run) → end (S .M) (startOf p r) (lettersFrom p r 0 (p .back-loop)) ≡ startOf p r
   pub forward-closed :
-      (r : Run) → end (S .M) (startOf p r) (inputsOf p r) ≡ end (S .M) (startOf p r) (lettersFrom p r 0 (unlooped p))
+      (r : Run) → end (S .M) (startOf p r) (runInputs p r) ≡ end (S .M) (startOf p r) (lettersFrom p r 0 (unlooped p))
 
 -- Both bounds of what the search writes ("Looped pair", the sentence on N × N letters).
 pub record Short (n : ℕ) (p : LoopedPair) : Type 0 where

@@ -1,17 +1,17 @@
 -- Whole texts of the report, spelled out.
 use mathlib.Core.Path.{_≡_, refl}
 use mathlib.Core.List.{[], _∷_, _++_}
-use Rattle.text.specs.Decimal.{placesWithin, places, decimal}
+use Rattle.text.specs.Decimal.{digitCountWithin, digitCount, decimal}
 use Rattle.report_text.specs.Report.{refusedText, coderLine, windowLine}
 
 -- "refused 4"
 refused-4 : refusedText 4 ≡ 114 ∷ 101 ∷ 102 ∷ 117 ∷ 115 ∷ 101 ∷ 100 ∷ 32 ∷ 52 ∷ 10 ∷ []
-unfolding decimal places placesWithin
+unfolding decimal digitCount digitCountWithin
 refused-4 = refl
 
 -- "coder 2 2 2" and "window 1 0", the two lines on coder A
 lines-of-A :
     coderLine 2 2 2 ++ windowLine 1 0
     ≡ 99 ∷ 111 ∷ 100 ∷ 101 ∷ 114 ∷ 32 ∷ 50 ∷ 32 ∷ 50 ∷ 32 ∷ 50 ∷ 10 ∷ 119 ∷ 105 ∷ 110 ∷ 100 ∷ 111 ∷ 119 ∷ 32 ∷ 49 ∷ 32 ∷ 48 ∷ 10 ∷ []
-unfolding decimal places placesWithin
+unfolding decimal digitCount digitCountWithin
 lines-of-A = refl

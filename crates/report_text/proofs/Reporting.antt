@@ -22,7 +22,7 @@ use Rattle.search.specs.declared.SearchResult.{SearchResult}
 use Rattle.search.specs.declared.SearchResult.the-variants.{Refused as RefusedSearch, Found}
 use Rattle.search.specs.declared.Verdict.{Verdict}
 use Rattle.search.specs.declared.Verdict.the-variants.{Least, NoDecoder}
-use Rattle.text.specs.Written.{Written}
+use Rattle.text.specs.Placed.{Placed}
 use Rattle.text.proofs.Placing.{written-then}
 use Rattle.report_text.specs.Text.{SecondWritten, ReportWritten}
 use Rattle.report_text.specs.Report.{refusedText, coderLine, windowLine, noDecoderLine, ReportPromise}
@@ -93,7 +93,7 @@ counts-short f e d =
 
 pub report-refused :
     (f : List ℕ) {h : Header} {k n : ℕ} {before after : List ℕ} → h ≡ headerOf f → h ≡ Refused k →
-    Written before 0 (refusedText k) after n → ReportWritten f before after n
+    Placed before 0 (refusedText k) after n → ReportWritten f before after n
 report-refused f {h} {k} e d w =
     let r = header-refused f e d in
     record {
@@ -105,7 +105,7 @@ report-refused f {h} {k} e d w =
 
 pub report-accepted :
     (f : List ℕ) {h : Header} {n i o at next : ℕ} {before middle after : List ℕ} → h ≡ headerOf f → h ≡ Counts n i o →
-    Written before 0 (coderLine n i o) middle at → at ≤ 18 → SecondWritten (settingOf f) middle at after next →
+    Placed before 0 (coderLine n i o) middle at → at ≤ 18 → SecondWritten (settingOf f) middle at after next →
     ReportWritten f before after next
 report-accepted f {h} {n} {i} {o} e d w l v =
     let c = header-counts f e d in
@@ -161,7 +161,7 @@ module _ (f before after : List ℕ) (ok : fileRefusal f ≡ 0) (long : wanted �
 
   pub window-second :
       {r : SearchResult} {v : Verdict} {w : Window} {out out′ : List ℕ} {at next : ℕ} → SearchPromise f before r after → r ≡ Found v →
-      v ≡ Least w → Written out at (windowLine (w .before) (w .after)) out′ next → SecondWritten (settingOf f) out at out′ next
+      v ≡ Least w → Placed out at (windowLine (w .before) (w .after)) out′ next → SecondWritten (settingOf f) out at out′ next
   window-second {r} {v} {w} p e d q =
       let l = window-short p e d in
       record {
@@ -173,5 +173,5 @@ module _ (f before after : List ℕ) (ok : fileRefusal f ≡ 0) (long : wanted �
 
   pub no-decoder-second :
       {r : SearchResult} {v : Verdict} {w : LoopedPair} {out out′ : List ℕ} {at next : ℕ} → SearchPromise f before r after →
-      r ≡ Found v → v ≡ NoDecoder w → Written out at noDecoderLine out′ next → SecondWritten (settingOf f) out at out′ next
+      r ≡ Found v → v ≡ NoDecoder w → Placed out at noDecoderLine out′ next → SecondWritten (settingOf f) out at out′ next
   no-decoder-second p e d q = record { line = noDecoderLine; right = no-window (pair-found p e d .none); is = q; short = omega (arith, q .end) }

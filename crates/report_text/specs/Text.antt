@@ -4,7 +4,7 @@ use mathlib.Core.Path.{_≡_}
 use mathlib.Core.List.{List}
 use lib.ListN.{length, getD, take}
 use Rattle.mealy.specs.Setting.{Setting}
-use Rattle.text.specs.Written.{Written}
+use Rattle.text.specs.Placed.{Placed}
 use Rattle.report_text.specs.Report.{SecondLine, ReportPromise}
 use Rattle.report_text.specs.declared.Text.{Text}
 
@@ -22,12 +22,12 @@ pub record Padded (t : Text) : Type 0 where
 pub record SecondWritten (S : Setting) (before : List ℕ) (at : ℕ) (after : List ℕ) (next : ℕ) : Type 0 where
   pub line : List ℕ
   pub right : SecondLine S line
-  pub is : Written before at line after next
+  pub is : Placed before at line after next
   pub short : next ≤ at + 15
 
 -- The report on a file is written from the buffer's front on, in at most 64 bytes.
 pub record ReportWritten (f before after : List ℕ) (n : ℕ) : Type 0 where
   pub text : List ℕ
   pub right : ReportPromise f text
-  pub is : Written before 0 text after n
+  pub is : Placed before 0 text after n
   pub short : n ≤ 64

@@ -4,7 +4,7 @@ ghost use Prim.Native.Nat.{ℕ, _+_, _<_, _≤_};
 ghost use lib.ListN.{length, getD};
 ghost use Rattle.coder.specs.File.{fileRefusal, settingOf};
 ghost use Rattle.search.specs.Search.{wanted};
-ghost use Rattle.text.specs.Written.{Written};
+ghost use Rattle.text.specs.Placed.{Placed};
 ghost use Rattle.report_text.specs.Report.{refusedText, coderLine, windowLine};
 ghost use Rattle.report_text.specs.Text.{SecondWritten, ReportWritten};
 use text::inner::word;
@@ -20,7 +20,7 @@ pub fn zeros() -> [u8; 64]
 // The text on a refused file.
 fn refused(out: &mut [u8], k: usize) -> usize
     requires { ⌜ (k < 1000) × (64 ≤ length (now out)) ⌝ }
-    ensures { λ r. ⌜ Written (now (out .entry)) 0 (refusedText k) (now (out .exit)) r ⌝ }
+    ensures { λ r. ⌜ Placed (now (out .entry)) 0 (refusedText k) (now (out .exit)) r ⌝ }
 {
     let a = word_number(out, 0, b"refused ", k);
     word(out, a, b"\n")
@@ -29,7 +29,7 @@ fn refused(out: &mut [u8], k: usize) -> usize
 // The first line on an accepted file.
 fn coder_line(out: &mut [u8], states: usize, inputs: usize, outputs: usize) -> usize
     requires { ⌜ (states < 1000) × (inputs < 1000) × (outputs < 1000) × (64 ≤ length (now out)) ⌝ }
-    ensures { λ r. ⌜ Written (now (out .entry)) 0 (coderLine states inputs outputs) (now (out .exit)) r ⌝ }
+    ensures { λ r. ⌜ Placed (now (out .entry)) 0 (coderLine states inputs outputs) (now (out .exit)) r ⌝ }
     ensures { λ r. ⌜ r ≤ 18 ⌝ }
 {
     let a = word_number(out, 0, b"coder ", states);
@@ -41,7 +41,7 @@ fn coder_line(out: &mut [u8], states: usize, inputs: usize, outputs: usize) -> u
 // The line of a window.
 fn window_line(out: &mut [u8], at: usize, before: usize, after: usize) -> usize
     requires { ⌜ (before < 1000) × (after < 1000) × (at + 15 ≤ length (now out)) ⌝ }
-    ensures { λ r. ⌜ Written (now (out .entry)) at (windowLine before after) (now (out .exit)) r ⌝ }
+    ensures { λ r. ⌜ Placed (now (out .entry)) at (windowLine before after) (now (out .exit)) r ⌝ }
 {
     let a = word_number(out, at, b"window ", before);
     let b = word_number(out, a, b" ", after);

@@ -9,22 +9,22 @@ use native.Mathlib.Omega.{arith}
 use lib.ListN.{length, getD, length-append, length-replicate}
 use borrow.Author.Tests.{lt-ltb, le-ltb}
 use Rattle.io.specs.Digits.{glyph, digits, Fewest}
-use Rattle.text.specs.Decimal.{placesWithin, places, decimal, paddedTo}
+use Rattle.text.specs.Decimal.{digitCountWithin, digitCount, decimal, paddedTo}
 
 -- ---- how many digits
 
-within-small : (k n : ℕ) → n < 10 → placesWithin k n ≡ 1
-unfolding placesWithin
+within-small : (k n : ℕ) → n < 10 → digitCountWithin k n ≡ 1
+unfolding digitCountWithin
 within-small zero n l = refl
 within-small (suc k) n l = rw (lt-ltb n 10 l)
 
-within-more : (k n : ℕ) → 10 ≤ n → placesWithin (suc k) n ≡ suc (placesWithin k (n / 10))
-unfolding placesWithin
+within-more : (k n : ℕ) → 10 ≤ n → digitCountWithin (suc k) n ≡ suc (digitCountWithin k (n / 10))
+unfolding digitCountWithin
 within-more k n l = rw (le-ltb n 10 l)
 
 -- the bound does not matter
-within-same : (k m n : ℕ) → n ≤ k → n ≤ m → placesWithin k n ≡ placesWithin m n
-unfolding placesWithin
+within-same : (k m n : ℕ) → n ≤ k → n ≤ m → digitCountWithin k n ≡ digitCountWithin m n
+unfolding digitCountWithin
 within-same zero m n p q = sym (within-small m n (omega arith))
 within-same (suc k) zero n p q = within-small (suc k) n (omega arith)
 within-same (suc k) (suc m) n p q = elim (decLt n 10) [
@@ -34,18 +34,18 @@ within-same (suc k) (suc m) n p q = elim (decLt n 10) [
       within-more k n h ∙ ap suc (within-same k m (n / 10) (omega arith) (omega arith)) ∙ sym (within-more m n h)
 ]
 
-pub places-small : (n : ℕ) → n < 10 → places n ≡ 1
-unfolding places
+pub places-small : (n : ℕ) → n < 10 → digitCount n ≡ 1
+unfolding digitCount
 places-small n l = within-small n n l
 
-pub places-more : (n : ℕ) → 10 ≤ n → places n ≡ suc (places (n / 10))
-unfolding places
+pub places-more : (n : ℕ) → 10 ≤ n → digitCount n ≡ suc (digitCount (n / 10))
+unfolding digitCount
 places-more zero l = absurd (omega arith)
 places-more (suc n) l =
     within-more n (suc n) l ∙ ap suc (within-same n (suc n / 10) (suc n / 10) (omega arith) (omega arith))
 
 -- the number of digits is the least that holds n, and no other is
-pub places-of : (k n : ℕ) → Fewest 10 1 n k → k ≡ places n
+pub places-of : (k n : ℕ) → Fewest 10 1 n k → k ≡ digitCount n
 places-of zero n f = absurd (omega (arith, f .0))
 places-of (suc zero) n f = sym (places-small n (omega (arith, f .1)))
 places-of (suc (suc j)) n f =
@@ -61,9 +61,9 @@ length-digits : (k n : ℕ) → length (digits 10 k n) ≡ k
 length-digits zero n = refl
 length-digits (suc k) n = length-append (digits 10 k (n / 10)) _ ∙ (let h = length-digits k (n / 10) in omega arith)
 
-pub length-decimal : (n : ℕ) → length (decimal n) ≡ places n
+pub length-decimal : (n : ℕ) → length (decimal n) ≡ digitCount n
 unfolding decimal
-length-decimal n = length-digits (places n) n
+length-decimal n = length-digits (digitCount n) n
 
 -- the fewest digits that hold n are its text
 pub decimal-of : (k n : ℕ) {bytes : List ℕ} → Fewest 10 1 n k → bytes ≡ digits 10 k n → bytes ≡ decimal n
@@ -77,7 +77,7 @@ length-of k n f = length-decimal n ∙ sym (places-of k n f)
 pub decimal-short : (k n : ℕ) → n < 10 ^ suc k → length (decimal n) ≤ suc k
 decimal-short k n l = rw (length-decimal n) (short k n l)
   where
-    short : (k n : ℕ) → n < 10 ^ suc k → places n ≤ suc k
+    short : (k n : ℕ) → n < 10 ^ suc k → digitCount n ≤ suc k
     short zero n l = omega (arith, places-small n (omega arith))
     short (suc k) n l = elim (decLt n 10) [
       | yes m ↦ omega (arith, places-small n m)

@@ -6,7 +6,7 @@ use native.Mathlib.Numerals.{add-one}
 use native.Mathlib.Omega.{arith}
 use lib.ListN.{length, getD, take, set, replicate, length-append, length-replicate, replicate-append-replicate}
 use lib.Seq.{sets, sets-eq, take-at, take-suc, take-length, length-sets, getD-set-other}
-use Rattle.text.specs.Written.{Written}
+use Rattle.text.specs.Placed.{Placed}
 
 -- ---- one after the other
 
@@ -15,8 +15,8 @@ sets-then before [] ys at next e = let p : next ≡ at = omega arith in rw p
 sets-then before (x ∷ xs) ys at next e = sets-then (set before at x) xs ys (suc at) next (omega arith)
 
 pub written-then :
-    {before middle after xs ys : List ℕ} {at place next : ℕ} → Written before at xs middle place → Written middle place ys after next →
-    Written before at (xs ++ ys) after next
+    {before middle after xs ys : List ℕ} {at place next : ℕ} → Placed before at xs middle place → Placed middle place ys after next →
+    Placed before at (xs ++ ys) after next
 written-then {before} {middle} {after} {xs} {ys} {at} {place} {next} a b = record {
   buffer = b .buffer ∙ ap (λ (l : List ℕ). sets l place ys) (a .buffer) ∙ sets-then before xs ys at place (a .end);
   end = omega (arith, a .end, b .end, length-append xs ys);
@@ -24,56 +24,56 @@ written-then {before} {middle} {after} {xs} {ys} {at} {place} {next} a b = recor
 
 -- two at once behind what is there
 pub written-both :
-    {before middle after xs : List ℕ} {at place next : ℕ} (ys zs : List ℕ) → Written before at xs middle place →
-    Written middle place (ys ++ zs) after next → Written before at (xs ++ ys ++ zs) after next
+    {before middle after xs : List ℕ} {at place next : ℕ} (ys zs : List ℕ) → Placed before at xs middle place →
+    Placed middle place (ys ++ zs) after next → Placed before at (xs ++ ys ++ zs) after next
 written-both {before} {middle} {after} {xs} ys zs a b = rw (append-assoc xs ys zs) (written-then a b)
 
-pub written-none : (before : List ℕ) (at : ℕ) → Written before at [] before at
+pub written-none : (before : List ℕ) (at : ℕ) → Placed before at [] before at
 written-none before at = record { buffer = refl; end = omega arith }
 
 pub written-one :
-    {before bytes : List ℕ} {at : ℕ} (out : List ℕ) (place x next : ℕ) → Written before at bytes out place → next ≡ place + 1 →
-    Written before at (bytes ++ (x ∷ [])) (set out place x) next
+    {before bytes : List ℕ} {at : ℕ} (out : List ℕ) (place x next : ℕ) → Placed before at bytes out place → next ≡ place + 1 →
+    Placed before at (bytes ++ (x ∷ [])) (set out place x) next
 written-one out place x next a e = written-then a (record { buffer = refl; end = e })
 
 -- one byte more of a word
 pub word-more :
-    {before out : List ℕ} {at place : ℕ} (bytes : List ℕ) (i next : ℕ) → i < length bytes → Written before at (take i bytes) out place →
-    next ≡ place + 1 → Written before at (take (i + 1) bytes) (set out place (getD bytes i 0)) next
+    {before out : List ℕ} {at place : ℕ} (bytes : List ℕ) (i next : ℕ) → i < length bytes → Placed before at (take i bytes) out place →
+    next ≡ place + 1 → Placed before at (take (i + 1) bytes) (set out place (getD bytes i 0)) next
 word-more {before} {out} {at} {place} bytes i next l a e = rw (add-one, take-suc bytes i 0 l) (written-one out place (getD bytes i 0) next a e)
 
 -- all of a word
 pub word-all :
     {before out : List ℕ} {at place : ℕ} (bytes : List ℕ) (i : ℕ) → i ≤ length bytes → length bytes ≤ i →
-    Written before at (take i bytes) out place → Written before at bytes out place
+    Placed before at (take i bytes) out place → Placed before at bytes out place
 word-all bytes i l m a = let e : i ≡ length bytes = omega arith in rw (e, take-length bytes) at a
 
 -- none of one byte, one more, all
-pub fill-none : (before : List ℕ) (at byte : ℕ) → Written before at (replicate (at - at) byte) before at
+pub fill-none : (before : List ℕ) (at byte : ℕ) → Placed before at (replicate (at - at) byte) before at
 fill-none before at byte = let e : at - at ≡ 0 = omega arith in rw e (written-none before at)
 
 pub fill-more :
-    {before out : List ℕ} {at : ℕ} (byte i : ℕ) → at ≤ i → Written before at (replicate (i - at) byte) out i →
-    Written before at (replicate (i + 1 - at) byte) (set out i byte) (i + 1)
+    {before out : List ℕ} {at : ℕ} (byte i : ℕ) → at ≤ i → Placed before at (replicate (i - at) byte) out i →
+    Placed before at (replicate (i + 1 - at) byte) (set out i byte) (i + 1)
 fill-more {before} {out} {at} byte i l a =
     let e : i + 1 - at ≡ i - at + 1 = omega arith in
     rw (e, ← replicate-append-replicate {A = ℕ} (i - at) 1 byte) (written-one out i byte (i + 1) a refl)
 
 pub fill-all :
-    {before out : List ℕ} {at place : ℕ} (byte n m : ℕ) → n ≡ m → Written before at (replicate n byte) out place →
-    Written before at (replicate m byte) out place
+    {before out : List ℕ} {at place : ℕ} (byte n m : ℕ) → n ≡ m → Placed before at (replicate n byte) out place →
+    Placed before at (replicate m byte) out place
 fill-all byte n m e a = rw e at a
 
-pub fill-end : {before out : List ℕ} {at place : ℕ} (byte n : ℕ) → Written before at (replicate n byte) out place → place ≡ at + n
+pub fill-end : {before out : List ℕ} {at place : ℕ} (byte n : ℕ) → Placed before at (replicate n byte) out place → place ≡ at + n
 fill-end byte n a = omega (arith, a .end, length-replicate {A = ℕ} n byte)
 
-pub written-length : {before bytes after : List ℕ} {at next : ℕ} → Written before at bytes after next → length after ≡ length before
+pub written-length : {before bytes after : List ℕ} {at next : ℕ} → Placed before at bytes after next → length after ≡ length before
 written-length {before} {bytes} {after} {at} {next} a = ap length (a .buffer) ∙ length-sets before at bytes
 
 -- ---- a text at the front of a buffer
 
 pub front-text :
-    {before bytes after : List ℕ} {n : ℕ} → Written before 0 bytes after n → length bytes ≤ length before → take n after ≡ bytes
+    {before bytes after : List ℕ} {n : ℕ} → Placed before 0 bytes after n → length bytes ≤ length before → take n after ≡ bytes
 front-text {before} {bytes} {after} {n} a l =
     let e : n ≡ length bytes = omega (arith, a .end) in
     rw (e, a .buffer, sets-eq bytes before 0 (omega arith)) (take-at bytes _ (length bytes) refl)
@@ -85,5 +85,5 @@ sets-past before (x ∷ bytes) at k l =
 
 -- the bytes past the text are as they were
 pub written-past :
-    {before bytes after : List ℕ} {at n : ℕ} → Written before at bytes after n → (k : ℕ) → n ≤ k → getD after k 0 ≡ getD before k 0
+    {before bytes after : List ℕ} {at n : ℕ} → Placed before at bytes after n → (k : ℕ) → n ≤ k → getD after k 0 ≡ getD before k 0
 written-past {before} {bytes} {after} {at} {n} a k l = rw (a .buffer) (sets-past before bytes at k (omega (arith, a .end)))

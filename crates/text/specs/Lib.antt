@@ -1,3 +1,3 @@
 -- What the contracts of text in a lent buffer cite.
 pub mod Decimal
-pub mod Written
+pub mod Placed

@@ -3,12 +3,12 @@ ghost use mathlib.Core.List.{_++_};
 ghost use Prim.Native.Nat.{_+_, _-_, _≤_};
 ghost use lib.ListN.{length, replicate};
 ghost use Rattle.text.specs.Decimal.{decimal, paddedTo};
-ghost use Rattle.text.specs.Written.{Written};
+ghost use Rattle.text.specs.Placed.{Placed};
 
 // A word.
 pub fn word(out: &mut [u8], at: usize, bytes: &[u8]) -> usize
     requires { ⌜ at + length (now bytes) ≤ length (now out) ⌝ }
-    ensures { λ r. ⌜ Written (now (out .entry)) at (now (bytes .entry)) (now (out .exit)) r ⌝ }
+    ensures { λ r. ⌜ Placed (now (out .entry)) at (now (bytes .entry)) (now (out .exit)) r ⌝ }
 {
     let mut i = 0;
     while i < bytes.len() {
@@ -21,7 +21,7 @@ pub fn word(out: &mut [u8], at: usize, bytes: &[u8]) -> usize
 // The same byte up to the place `end`; nothing where that is not above `at`.
 fn fill(out: &mut [u8], at: usize, end: usize, byte: u8) -> usize
     requires { ⌜ end ≤ length (now out) ⌝ }
-    ensures { λ r. ⌜ Written (now (out .entry)) at (replicate (end - at) byte) (now (out .exit)) r ⌝ }
+    ensures { λ r. ⌜ Placed (now (out .entry)) at (replicate (end - at) byte) (now (out .exit)) r ⌝ }
 {
     let mut i = at;
     while i < end {
@@ -34,7 +34,7 @@ fn fill(out: &mut [u8], at: usize, end: usize, byte: u8) -> usize
 // Spaces to a column, which is a place of the buffer.
 pub fn spaces(out: &mut [u8], at: usize, column: usize) -> usize
     requires { ⌜ column ≤ length (now out) ⌝ }
-    ensures { λ r. ⌜ Written (now (out .entry)) at (replicate (column - at) 32) (now (out .exit)) r ⌝ }
+    ensures { λ r. ⌜ Placed (now (out .entry)) at (replicate (column - at) 32) (now (out .exit)) r ⌝ }
 {
     fill(out, at, column, b' ')
 }
@@ -42,7 +42,7 @@ pub fn spaces(out: &mut [u8], at: usize, column: usize) -> usize
 // A number in decimal, without leading zeros.
 pub fn number(out: &mut [u8], at: usize, n: usize) -> usize
     requires { ⌜ at + length (decimal n) ≤ length (now out) ⌝ }
-    ensures { λ r. ⌜ Written (now (out .entry)) at (decimal n) (now (out .exit)) r ⌝ }
+    ensures { λ r. ⌜ Placed (now (out .entry)) at (decimal n) (now (out .exit)) r ⌝ }
 {
     let mut digits = [0u8; 20];
     let k = io::decimal(n as u64, &mut digits);
@@ -52,7 +52,7 @@ pub fn number(out: &mut [u8], at: usize, n: usize) -> usize
 // A word, and a number behind it.
 pub fn word_number(out: &mut [u8], at: usize, bytes: &[u8], n: usize) -> usize
     requires { ⌜ at + length (now bytes) + length (decimal n) ≤ length (now out) ⌝ }
-    ensures { λ r. ⌜ Written (now (out .entry)) at (now (bytes .entry) ++ decimal n) (now (out .exit)) r ⌝ }
+    ensures { λ r. ⌜ Placed (now (out .entry)) at (now (bytes .entry) ++ decimal n) (now (out .exit)) r ⌝ }
 {
     let next = word(out, at, bytes);
     number(out, next, n)
@@ -61,7 +61,7 @@ pub fn word_number(out: &mut [u8], at: usize, bytes: &[u8], n: usize) -> usize
 // A number at the right end of `width` bytes, with `pad` in front of it: a space, or the digit 0 for leading zeros.
 pub fn padded(out: &mut [u8], at: usize, n: usize, width: usize, pad: u8) -> usize
     requires { ⌜ (length (decimal n) ≤ width) × (at + width ≤ length (now out)) ⌝ }
-    ensures { λ r. ⌜ Written (now (out .entry)) at (paddedTo width pad n) (now (out .exit)) r ⌝ }
+    ensures { λ r. ⌜ Placed (now (out .entry)) at (paddedTo width pad n) (now (out .exit)) r ⌝ }
 {
     let mut digits = [0u8; 20];
     let k = io::decimal(n as u64, &mut digits);

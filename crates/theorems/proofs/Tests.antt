@@ -13,7 +13,7 @@ use Rattle.mealy.specs.Machine.{Machine, outs, end, Letters}
 use Rattle.mealy.specs.Setting.{anyState}
 use Rattle.mealy.specs.Window.{Works, SameLetter}
 use Rattle.mealy.specs.Order.{FewestLetters, Least}
-use Rattle.mealy.specs.LoopedPair.{LoopedPair, Run, first, second, letterAt, lettersFrom, mark, unlooped, letters, startOf, inputsOf, Valid}
+use Rattle.mealy.specs.LoopedPair.{LoopedPair, Run, first, second, letterAt, lettersFrom, mark, unlooped, letters, startOf, runInputs, Valid}
 use Rattle.mealy.proofs.Plain.{works↔same-letter}
 use Rattle.coder.specs.Refusal.{allBelow, lettersBelow}
 use Rattle.coder.proofs.Refusals.{true-false, both-true, all-at, letters-below}
@@ -155,30 +155,30 @@ module _ (M : Machine) (b a : ℕ) where
 module _ (M : Machine) (p : LoopedPair) where
   unfoldable pub closesTest : Run → Bool
   closesTest r =
-      (ltb (startOf p r) (M .states) && (lettersBelow (M .inputs) (inputsOf p r) && (eqb (end M (startOf p r) (lettersFrom p r 0 (p .back-loop))) (startOf p r) && eqb (end M (startOf p r) (inputsOf p r)) (end M (startOf p r) (lettersFrom p r 0 (unlooped p))))))
+      (ltb (startOf p r) (M .states) && (lettersBelow (M .inputs) (runInputs p r) && (eqb (end M (startOf p r) (lettersFrom p r 0 (p .back-loop))) (startOf p r) && eqb (end M (startOf p r) (runInputs p r)) (end M (startOf p r) (lettersFrom p r 0 (unlooped p))))))
 
   unfoldable pub validTest : Bool
   validTest =
-      (leb (2 * letters p) (length (p .bytes)) && (ltb 0 (p .back-loop) && (ltb 0 (p .forward-loop) && (sameList (outs M (p .s) (inputsOf p first)) (outs M (p .t) (inputsOf p second)) && (not (eqb (letterAt p first (mark p)) (letterAt p second (mark p))) && (closesTest first && closesTest second))))))
+      (leb (2 * letters p) (length (p .bytes)) && (ltb 0 (p .back-loop) && (ltb 0 (p .forward-loop) && (sameList (outs M (p .s) (runInputs p first)) (outs M (p .t) (runInputs p second)) && (not (eqb (letterAt p first (mark p)) (letterAt p second (mark p))) && (closesTest first && closesTest second))))))
 
   record ClosedRun (r : Run) : Type 0 where
     start : startOf p r < M .states
-    below : Letters (M .inputs) (inputsOf p r)
+    below : Letters (M .inputs) (runInputs p r)
     back-closed : end M (startOf p r) (lettersFrom p r 0 (p .back-loop)) ≡ startOf p r
-    forward-closed : end M (startOf p r) (inputsOf p r) ≡ end M (startOf p r) (lettersFrom p r 0 (unlooped p))
+    forward-closed : end M (startOf p r) (runInputs p r) ≡ end M (startOf p r) (lettersFrom p r 0 (unlooped p))
 
   closed-run : (r : Run) → closesTest r ≡ true → ClosedRun r
   unfolding closesTest
   closed-run r e =
-      let f = eqb (end M (startOf p r) (inputsOf p r)) (end M (startOf p r) (lettersFrom p r 0 (unlooped p))) in
+      let f = eqb (end M (startOf p r) (runInputs p r)) (end M (startOf p r) (lettersFrom p r 0 (unlooped p))) in
       let b = eqb (end M (startOf p r) (lettersFrom p r 0 (p .back-loop))) (startOf p r) in
-      let l = lettersBelow (M .inputs) (inputsOf p r) in
+      let l = lettersBelow (M .inputs) (runInputs p r) in
       let x = both-true (ltb (startOf p r) (M .states)) (l && (b && f)) e in
       let y = both-true l (b && f) (x .1) in
       let z = both-true b f (y .1) in
       record {
         start = ltb-true _ _ (x .0);
-        below = letters-below (M .inputs) (inputsOf p r) (y .0);
+        below = letters-below (M .inputs) (runInputs p r) (y .0);
         back-closed = eqb-true _ _ (z .0);
         forward-closed = eqb-true _ _ (z .1);
       }
@@ -188,7 +188,7 @@ module _ (M : Machine) (p : LoopedPair) where
   valid-test e =
       let c = (closesTest first && closesTest second) in
       let d = not (eqb (letterAt p first (mark p)) (letterAt p second (mark p))) in
-      let o = sameList (outs M (p .s) (inputsOf p first)) (outs M (p .t) (inputsOf p second)) in
+      let o = sameList (outs M (p .s) (runInputs p first)) (outs M (p .t) (runInputs p second)) in
       let f = ltb 0 (p .forward-loop) in
       let b = ltb 0 (p .back-loop) in
       let x = both-true (leb (2 * letters p) (length (p .bytes))) (b && (f && (o && (d && c)))) e in

@@ -9,7 +9,7 @@ ghost use Rattle.coder.specs.Refusal.{Judges};
 ghost use Rattle.coder.specs.Table.{machineOfCoder};
 ghost use Rattle.coder.specs.declared.inner.tables.Coder.{Coder};
 ghost use Rattle.values.specs.Pair.{pairOf};
-ghost use Rattle.checker.specs.Follow.{TablesOf, FollowAsked, Follows, CheckAsked, JudgesParts, JudgesValid};
+ghost use Rattle.checker.specs.Follow.{PairTables, FollowAsked, Follows, CheckAsked, JudgesParts, JudgesValid};
 use coder::inner::bytes::byte;
 use coder::inner::tables::entry;
 use setting::inner::has;
@@ -33,7 +33,7 @@ fn follow<'a>(
     n: usize,
 ) -> Followed
     requires { ⌜ FollowAsked (now next) (now output) (now letters) s t place n ⌝ }
-    ensures { λ r. ⌜ ((c : Coder) (p : Pair) → TablesOf c p (now (next .entry)) (now (output .entry)) (now (letters .entry)) → Follows (machineOfCoder c) p s t place n r) ⌝ }
+    ensures { λ r. ⌜ ((c : Coder) (p : Pair) → PairTables c p (now (next .entry)) (now (output .entry)) (now (letters .entry)) → Follows (machineOfCoder c) p s t place n r) ⌝ }
 {
     let mut u = s;
     let mut v = t;
@@ -63,7 +63,7 @@ fn closes<'a>(
     n: usize,
 ) -> bool
     requires { ⌜ FollowAsked (now next) (now output) (now letters) s t place n ⌝ }
-    ensures { λ r. ⌜ ((c : Coder) (p : Pair) → TablesOf c p (now (next .entry)) (now (output .entry)) (now (letters .entry)) → Judges (Loop (machineOfCoder c) p place n s t) r) ⌝ }
+    ensures { λ r. ⌜ ((c : Coder) (p : Pair) → PairTables c p (now (next .entry)) (now (output .entry)) (now (letters .entry)) → Judges (Loop (machineOfCoder c) p place n s t) r) ⌝ }
 {
     if n == 0 {
         return false;

@@ -4,7 +4,7 @@ ghost use Prim.Native.Nat.{ℕ, _<_};
 ghost use lib.ListN.{length, getD};
 ghost use Rattle.mealy.specs.Word.{Holds};
 ghost use Rattle.coder.specs.Table.{Sound};
-ghost use Rattle.fitting.specs.Tables.{partOf, partsOf, EntriesAsked, Gives, ByOutput, SetsOf};
+ghost use Rattle.fitting.specs.Tables.{placePart, placeParts, EntriesAsked, Gives, ByOutput, SetsOf};
 use coder::inner::tables::Coder;
 
 fn none() -> [u16; 1024]
@@ -16,7 +16,7 @@ fn none() -> [u16; 1024]
 // The state of place p of a coder's tables, or its input letter.
 fn part(letters: bool, p: usize) -> u8
     requires { ⌜ p < 256 ⌝ }
-    ensures { λ r. ⌜ r ≡ partOf letters p ⌝ }
+    ensures { λ r. ⌜ r ≡ placePart letters p ⌝ }
 {
     if letters {
         (p % Coder::INPUTS) as u8
@@ -27,7 +27,7 @@ fn part(letters: bool, p: usize) -> u8
 
 // The state of each place, or its input letter.
 pub fn parts(letters: bool) -> [u8; 256]
-    ensures { λ r. ⌜ r ≡ partsOf letters ⌝ }
+    ensures { λ r. ⌜ r ≡ placeParts letters ⌝ }
 {
     let mut a = [0u8; 256];
     let mut p = 0;

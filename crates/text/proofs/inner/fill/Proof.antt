@@ -2,7 +2,7 @@
 use mathlib.Core.Path.{_≡_}
 use Prim.Native.Nat.{_≤_, _-_}
 use lib.ListN.{length, replicate}
-use Rattle.text.specs.Written.{Written}
+use Rattle.text.specs.Placed.{Placed}
 use Rattle.text.proofs.Placing.{fill-none, fill-more, fill-all}
 use borrow.Author.Needs.{needs}
 use native.Mathlib.Omega.{arith}
@@ -11,7 +11,7 @@ use Rattle.text.proofs.inner.fill.Tie as tie
 
 abbrev Inv-loop : tie.InvT-loop
 Inv-loop out₀ at end byte i₀ out i =
-    (at ≤ i) × (i - at ≤ end - at) × (length out ≡ length out₀) × Written out₀ at (replicate (i - at) byte) out i
+    (at ≤ i) × (i - at ≤ end - at) × (length out ≡ length out₀) × Placed out₀ at (replicate (i - at) byte) out i
 
 abbrev μ-loop : tie.MeasureT-loop
 μ-loop out₀ at end byte i₀ out i = end - i

@@ -7,7 +7,7 @@ use Rattle.mealy.proofs.SameSettings.{letter-below}
 use Rattle.coder.specs.Limits.{maxStates, maxInputs}
 use Rattle.coder.specs.Table.{machineOfCoder}
 use Rattle.coder.specs.declared.inner.tables.Coder.{Coder}
-use Rattle.checker.specs.Follow.{TablesOf}
+use Rattle.checker.specs.Follow.{PairTables}
 use Rattle.checker.proofs.Following.{next-low, equal-bytes, table-edge, Passed, passed-none, passed-more, passed-not, passed-all}
 use Rattle.checker.proofs.inner.follow.follow.Statement.{statement}
 use Rattle.checker.proofs.inner.follow.follow.Tie as tie
@@ -15,7 +15,7 @@ use Rattle.checker.proofs.inner.follow.follow.Tie as tie
 abbrev Inv-loop : tie.InvT-loop
 Inv-loop next output letters s t place n u₀ v₀ k₀ u v k =
     (u < maxStates) × (v < maxStates) ×
-    ((c : Coder) (p : LoopedPair) → TablesOf c p next output letters → Passed (machineOfCoder c) p s t place n u v k)
+    ((c : Coder) (p : LoopedPair) → PairTables c p next output letters → Passed (machineOfCoder c) p s t place n u v k)
 
 abbrev μ-loop : tie.MeasureT-loop
 μ-loop next output letters s t place n u₀ v₀ k₀ u v k = n - k

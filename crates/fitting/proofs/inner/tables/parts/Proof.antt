@@ -1,4 +1,4 @@
-use Rattle.fitting.specs.Tables.{partOf}
+use Rattle.fitting.specs.Tables.{placePart}
 use Rattle.coder.proofs.Fill.{Filled, filled-none, filled-more, filled-all}
 use Prim.Native.Nat.{_≤_, _-_}
 use borrow.Author.Needs.{needs}
@@ -7,7 +7,7 @@ use Rattle.fitting.proofs.inner.tables.parts.Statement.{statement}
 use Rattle.fitting.proofs.inner.tables.parts.Tie as tie
 
 abbrev Inv-loop : tie.InvT-loop
-Inv-loop letters a₀ p₀ a p = (p ≤ 256) × Filled 256 (partOf letters) p a
+Inv-loop letters a₀ p₀ a p = (p ≤ 256) × Filled 256 (placePart letters) p a
 
 abbrev μ-loop : tie.MeasureT-loop
 μ-loop letters a₀ p₀ a p = 256 - p

@@ -6,6 +6,6 @@ use lib.ListN.{length}
 use lib.Seq.{sets}
 
 -- The buffer has these bytes from the place `at` on, all its other bytes are as they were, and `next` is the place after them.
-pub record Written (before : List ℕ) (at : ℕ) (bytes after : List ℕ) (next : ℕ) : Type 0 where
+pub record Placed (before : List ℕ) (at : ℕ) (bytes after : List ℕ) (next : ℕ) : Type 0 where
   pub buffer : after ≡ sets before at bytes
   pub end : next ≡ at + length bytes
