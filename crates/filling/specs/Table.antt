@@ -6,6 +6,7 @@ use mathlib.Core.List.{List, [], _∷_}
 use lib.ListN.{length, getD}
 use lib.Dec.{leb}
 use Rattle.mealy.specs.Setting.{Setting}
+use Rattle.mealy.specs.Word.{Holds}
 use Rattle.coder.specs.Limits.{maxOutputs}
 use Rattle.coder.specs.Table.{machineOfCoder}
 use Rattle.coder.specs.declared.inner.tables.Coder.{Coder}
@@ -50,6 +51,10 @@ pub record TableFilled (c : Coder) (o n b : ℕ) (table : List ℕ) : Type 0 whe
   pub size : length table ≡ o ^ n
   pub is : (k : ℕ) → k < o ^ n → EntryAt (settingOfCoder c) o n b k (getD table k 0)
 
+abbrev pub FillGiven : List ℕ → List ℕ → List ℕ → ℕ → ℕ → ℕ → ℕ → List ℕ → Type 0
+FillGiven next start entries outputs starts n b table =
+    (c : Coder) → RowsOf c start entries → next ≡ c .next → Holds (settingOfCoder c .Start) starts → TableFilled c outputs n b table
+
 -- ---- the part of the table whose windows have `left` letters more, after letters that led to the sets v
 
 pub record PartAsked (next start entries : List ℕ) (outputs : ℕ) (v : List ℕ) (left present : ℕ) (table : List ℕ) : Type 0 where
@@ -68,6 +73,10 @@ pub record PartFilled (c : Coder) (v : List ℕ) (o left present : ℕ) (table :
   pub size : length table ≡ o ^ left
   pub is :
       (k : ℕ) → k < o ^ left → ByteOf (From (machineOfCoder c) (SetsIn c v) (windowAt o left k) present) (getD table k 0)
+
+abbrev pub PartGiven : List ℕ → List ℕ → List ℕ → ℕ → List ℕ → ℕ → ℕ → List ℕ → Type 0
+PartGiven next start entries outputs v left present table =
+    (c : Coder) → RowsOf c start entries → next ≡ c .next → PartFilled c v outputs left present table
 
 -- with one letter more
 pub record LastAsked (start entries : List ℕ) (outputs : ℕ) (v table : List ℕ) : Type 0 where

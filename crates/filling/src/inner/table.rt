@@ -1,12 +1,10 @@
 // The decoder table, filled letter by letter: the windows that begin alike share the pass over what they have in common.
 ghost use mathlib.Core.Path.{_≡_};
 ghost use Prim.Native.Nat.{_≤_};
-ghost use Rattle.mealy.specs.Word.{Holds};
 ghost use Rattle.coder.specs.Limits.{maxOutputs};
 ghost use Rattle.coder.specs.declared.inner.tables.Coder.{Coder};
-ghost use Rattle.setting.specs.Words.{settingOfCoder};
 ghost use Rattle.filling.specs.Sets.{RowsOf};
-ghost use Rattle.filling.specs.Table.{sizeOf, LastAsked, LastFilled, PartAsked, PartFilled, FillAsked, TableFilled};
+ghost use Rattle.filling.specs.Table.{sizeOf, LastAsked, LastFilled, PartAsked, PartGiven, FillAsked, FillGiven};
 use crate::inner::sets::EMPTY;
 use crate::inner::sets::advance;
 use crate::inner::sets::letters_after;
@@ -67,7 +65,7 @@ fn fill_part<'a>(
     table: &mut [u8],
 )
     requires { ⌜ PartAsked (now next) (now start) (now entries) outputs (now v) left present (now table) ⌝ }
-    ensures { λ _. ⌜ ((c : Coder) → RowsOf c (now (start .entry)) (now (entries .entry)) → now (next .entry) ≡ c .next → PartFilled c (now (v .entry)) outputs left present (now (table .exit))) ⌝ }
+    ensures { λ _. ⌜ PartGiven (now (next .entry)) (now (start .entry)) (now (entries .entry)) outputs (now (v .entry)) left present (now (table .exit)) ⌝ }
 {
     if left == 1 {
         fill_last(start, entries, outputs, v, present == 1, table);
@@ -107,7 +105,7 @@ pub fn fill<'a>(
     table: &mut [u8],
 )
     requires { ⌜ FillAsked (now next) (now start) (now entries) outputs n b (now table) ⌝ }
-    ensures { λ _. ⌜ ((c : Coder) → RowsOf c (now (start .entry)) (now (entries .entry)) → now (next .entry) ≡ c .next → Holds (settingOfCoder c .Start) starts → TableFilled c outputs n b (now (table .exit))) ⌝ }
+    ensures { λ _. ⌜ FillGiven (now (next .entry)) (now (start .entry)) (now (entries .entry)) outputs starts n b (now (table .exit)) ⌝ }
 {
     let v = start_sets(starts);
     fill_part(next, start, entries, outputs, &v, n, b + 1, table);
