@@ -14,7 +14,7 @@ use Rattle.values.specs.Window.{size}
 use Rattle.values.specs.declared.Window.{Window}
 use Rattle.fitting.specs.Answer.{RightByte}
 use Rattle.setting.specs.Words.{settingOfCoder}
-use Rattle.fitting.specs.Tables.{Tables}
+use Rattle.fitting.specs.Tables.{TablesOf, Tables}
 use Rattle.decoder.specs.Written.{Written}
 use Rattle.decoder.specs.Count.{CountPromise, CountGiven}
 use Rattle.decoder.specs.Refusal.{stringRefusal}
@@ -62,3 +62,8 @@ pub record PlacesAsked (next successors predecessors letters : List ℕ) (starts
 abbrev pub PlacesDecoded : Coder → List ℕ → ℕ → ℕ → ℕ → List ℕ → List ℕ → Type 0
 PlacesDecoded c received b n m before after =
     Written (λ k v. RightByte (settingOfCoder c) (take n (drop k received)) b v) m before after
+
+-- for every coder whose tables these are
+abbrev pub PlacesGiven : List ℕ → List ℕ → List ℕ → List ℕ → ℕ → List ℕ → ℕ → ℕ → ℕ → List ℕ → List ℕ → Type 0
+PlacesGiven next successors predecessors letters starts received b n m before after =
+    (c : Coder) → TablesOf c next successors predecessors letters starts → PlacesDecoded c received b n m before after

@@ -3,7 +3,7 @@
 use Prim.Native.Nat.{ℕ, _+_, _*_, _/_, _%_, _<_, _≤_}
 use mathlib.Core.Path.{_≡_}
 use mathlib.Core.Bool.{Bool, true, false, cond}
-use mathlib.Core.List.{List}
+use mathlib.Core.List.{List, _∷_}
 use lib.ListN.{length, getD}
 use Rattle.mealy.specs.Machine.{Letters}
 use Rattle.mealy.specs.Word.{Has, Holds}
@@ -11,6 +11,8 @@ use Rattle.mealy.specs.Image.{Transitions, Fitting}
 use Rattle.coder.specs.Table.{table, Sound}
 use Rattle.coder.specs.declared.inner.tables.Coder.{Coder}
 use Rattle.setting.specs.Words.{settingOfCoder}
+use Rattle.fitting.specs.Answer.{Right}
+use Rattle.fitting.specs.declared.Answer.{Answer}
 
 -- the state of each place of a coder's tables or, with `letters`, its input letter
 abbrev pub placePart : Bool → ℕ → ℕ
@@ -100,3 +102,16 @@ pub record TablesOf (c : Coder) (next successors predecessors letters : List ℕ
 pub record Tables (next successors predecessors letters : List ℕ) (starts : ℕ) : Type 0 where
   pub coder : Coder
   pub is : TablesOf coder next successors predecessors letters starts
+
+-- ---- what the functions on the tables of a window give
+
+-- the letters that fit at the present place, with any successors of which these are the predecessors
+abbrev pub PresentGiven : List ℕ → List ℕ → List ℕ → ℕ → ℕ → List ℕ → ℕ → Type 0
+PresentGiven next predecessors letters o set after r =
+    (successors : List ℕ) → TablesAsked next successors predecessors letters →
+    Holds (FittingIn next successors letters (Has set) (o ∷ after) 0) r
+
+-- the right answer, for every coder whose tables these are
+abbrev pub DecodeGiven : List ℕ → List ℕ → List ℕ → List ℕ → ℕ → List ℕ → ℕ → Answer → Type 0
+DecodeGiven next successors predecessors letters starts window b r =
+    (c : Coder) → TablesOf c next successors predecessors letters starts → Right (settingOfCoder c) window b r

@@ -1,7 +1,5 @@
 // A string, place by place.
-ghost use Rattle.coder.specs.declared.inner.tables.Coder.{Coder};
-ghost use Rattle.fitting.specs.Tables.{TablesOf};
-ghost use Rattle.decoder.specs.Places.{PlacesAsked, PlacesDecoded};
+ghost use Rattle.decoder.specs.Places.{PlacesAsked, PlacesGiven};
 use fitting::inner::answer::answer_byte;
 use fitting::inner::window::decode;
 
@@ -19,7 +17,7 @@ pub fn decode_places<'a>(
     output: &mut [u8],
 )
     requires { ⌜ PlacesAsked (now next) (now successors) (now predecessors) (now letters) starts (now received) b n m (now output) ⌝ }
-    ensures { λ _. ⌜ ((c : Coder) → TablesOf c (now (next .entry)) (now (successors .entry)) (now (predecessors .entry)) (now (letters .entry)) starts → PlacesDecoded c (now (received .entry)) b n m (now (output .entry)) (now (output .exit))) ⌝ }
+    ensures { λ _. ⌜ PlacesGiven (now (next .entry)) (now (successors .entry)) (now (predecessors .entry)) (now (letters .entry)) starts (now (received .entry)) b n m (now (output .entry)) (now (output .exit)) ⌝ }
 {
     let mut k = 0;
     while k < m {

@@ -1,14 +1,9 @@
 // The letters that fit a window, and the answer.
-ghost use mathlib.Core.Path.{_≡_};
-ghost use Prim.Native.Nat.{ℕ, _<_};
-ghost use mathlib.Core.List.{List, _∷_};
+ghost use Prim.Native.Nat.{_<_};
 ghost use lib.ListN.{length};
 ghost use Rattle.mealy.specs.Machine.{Letters};
 ghost use Rattle.mealy.specs.Word.{Has, Holds};
-ghost use Rattle.coder.specs.declared.inner.tables.Coder.{Coder};
-ghost use Rattle.setting.specs.Words.{settingOfCoder};
-ghost use Rattle.fitting.specs.Answer.{Right};
-ghost use Rattle.fitting.specs.Tables.{TablesAsked, PresentAsked, FittingIn, TablesOf, Tables};
+ghost use Rattle.fitting.specs.Tables.{TablesAsked, PresentAsked, PresentGiven, FittingIn, Tables, DecodeGiven};
 use crate::Answer;
 use crate::inner::answer::answer_of;
 use crate::inner::sets::between;
@@ -27,7 +22,7 @@ fn present<'a>(
     after: &[u8],
 ) -> u16
     requires { ⌜ PresentAsked (now next) (now predecessors) (now letters) o (now after) ⌝ }
-    ensures { λ r. ⌜ ((successors : List ℕ) → TablesAsked (now (next .entry)) successors (now (predecessors .entry)) (now (letters .entry)) → Holds (FittingIn (now (next .entry)) successors (now (letters .entry)) (Has set) (o ∷ now (after .entry)) 0) r) ⌝ }
+    ensures { λ r. ⌜ PresentGiven (now (next .entry)) (now (predecessors .entry)) (now (letters .entry)) o set (now (after .entry)) r ⌝ }
 {
     if after.len() == 0 {
         return image(letters, o, set);
@@ -65,7 +60,7 @@ pub fn decode<'a>(
     b: usize,
 ) -> Answer
     requires { ⌜ Tables (now next) (now successors) (now predecessors) (now letters) starts × Letters 64 (now window) × (b < length (now window)) ⌝ }
-    ensures { λ r. ⌜ ((c : Coder) → TablesOf c (now (next .entry)) (now (successors .entry)) (now (predecessors .entry)) (now (letters .entry)) starts → Right (settingOfCoder c) (now (window .entry)) b r) ⌝ }
+    ensures { λ r. ⌜ DecodeGiven (now (next .entry)) (now (successors .entry)) (now (predecessors .entry)) (now (letters .entry)) starts (now (window .entry)) b r ⌝ }
 {
     answer_of(fitting(next, successors, predecessors, letters, starts, window, b))
 }

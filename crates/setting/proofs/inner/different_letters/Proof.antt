@@ -1,10 +1,9 @@
-use mathlib.Core.Path.{refl}
-use mathlib.Core.Path.{_≡_, ap}
-use Prim.Native.Nat.{_<_}
-use Prim.Native.Nat.{_≤_, _-_}
-use Rattle.setting.proofs.Numbers.{Made, made-none, made-more, made-all, shifted}
+-- `different_letters` meets its contract: the first i words are made.
+use mathlib.Core.Path.{refl, _≡_, ap}
+use Prim.Native.Nat.{_<_, _≤_, _-_}
 use borrow.Author.Needs.{needs}
 use native.Mathlib.Omega.{arith}
+use Rattle.setting.proofs.Numbers.{Made, made-none, made-more, made-all, shifted}
 use Rattle.setting.proofs.inner.different_letters.Statement.{statement}
 use Rattle.setting.proofs.inner.different_letters.Tie as tie
 

@@ -1,5 +1,5 @@
+-- `has` meets its contract: the bit is 1 or it is not.
 use borrow.Author.Tests.{eqb-true, eqb-false}
-use borrow.Author.Needs.{needs}
 use borrow.Author.Needs.{needs}
 use Rattle.setting.proofs.inner.has.Statement.{statement}
 use Rattle.setting.proofs.inner.has.Tie as tie

@@ -1,8 +1,8 @@
+-- `start_states` meets its contract: all numbers below the number of states.
 use lib.Pow.{pow-pos}
-use Rattle.setting.proofs.Numbers.{holds-all, shifted}
 use borrow.Author.Needs.{needs}
 use native.Mathlib.Omega.{arith}
-use borrow.Author.Needs.{needs}
+use Rattle.setting.proofs.Numbers.{holds-all, shifted}
 use Rattle.setting.proofs.inner.start_states.Statement.{statement}
 use Rattle.setting.proofs.inner.start_states.Tie as tie
 

@@ -1,10 +1,11 @@
+-- `checked::string` meets its contract: a right byte for each place, with the old bytes after them.
+use denote.Ref.{now}
+use native.Mathlib.Omega.{arith}
 use Rattle.decoder.proofs.Decoding.{CoderOf, sound-of, outputs-of, tables-of, places-right}
 use Rattle.decoder.proofs.Accepting.{string-accepted}
 use Rattle.coder.proofs.Refusals.{letters-higher}
 use Rattle.coder.specs.File.{outputsOf}
 use Rattle.coder.specs.Limits.{maxOutputs}
-use denote.Ref.{now}
-use native.Mathlib.Omega.{arith}
 use Rattle.decoder.proofs.inner.checked.string.Statement.{statement}
 use Rattle.decoder.proofs.inner.checked.string.Tie as tie
 
@@ -31,13 +32,42 @@ places-requires : tie.Need-places-requires
 places-requires c κs = string-accepted _ _ _ _ (c .before .before .before .before .before .before .before .pre .accepted) .sides .small
 
 decode-places-requires : tie.Need-decode-places-requires
-decode-places-requires c κs = let k = c .before .before .before .before .before .before .before .before .before .before .before in let a = k .before .before .before .before .args in let q = k .before .before .before .before .pre in let h = coder-of k in let s = sound-of h in let r = string-accepted _ _ _ _ (q .accepted) in record { tables = record { coder = _; is = tables-of h (c .before .before .before .before .before .before .before .before .before .of-coder .ensures) (c .before .before .before .before .before .before .before .before .before .before .start-states .ensures) }; below = letters-higher (outputsOf (now (a .file))) maxOutputs (now (a .received)) (omega (arith, s .outputs-high, outputs-of h)) (r .letters); present = omega (arith, c .before .before .before .before .before .before .before .before .letters .ensures); windows = omega (arith, c .before .before .before .before .before .before .before .places .ensures, c .before .before .before .before .before .before .before .before .letters .ensures); room = omega (arith, c .before .before .before .before .before .before .before .places .ensures, q .room) }
+decode-places-requires c κs =
+    let sized = c .before .before .before .before .before .before .before in
+    let tabled = sized .before .before in
+    let k = tabled .before .before in
+    let a = k .before .before .before .before .args in
+    let q = k .before .before .before .before .pre in
+    let h = coder-of k in
+    let s = sound-of h in
+    let r = string-accepted _ _ _ _ (q .accepted) in
+    record {
+      tables = record { coder = _; is = tables-of h (tabled .of-coder .ensures) (tabled .before .start-states .ensures) };
+      below =
+          letters-higher (outputsOf (now (a .file))) maxOutputs (now (a .received)) (omega (arith, s .outputs-high, outputs-of h))
+          (r .letters);
+      present = omega (arith, sized .before .letters .ensures);
+      windows = omega (arith, sized .places .ensures, sized .before .letters .ensures);
+      room = omega (arith, sized .places .ensures, q .room);
+    }
 
 same-length : tie.Need-same-length
 same-length c = c .before .before .decode-places .kept .1 .1 .1 .1 .1 .1 .1 .1 .1 .0
 
 returns : tie.Need-returns
-returns c = let k = c .before .before .before .before .before .before .before .before .before .before .before .before .before .before in let a = k .before .before .before .before .args in let h = coder-of k in record { counted = c .before .before .before .before .before .before .before .before .before .before .places .ensures; bytes = places-right h (a .w) (now (a .received)) (c .before .before .before .before .before .before .before .before .before .before .before .letters .ensures) (c .before .before .before .before .before .before .before .before .before .before .places .ensures) (c .before .before .decode-places .ensures _ (tables-of h (c .before .before .before .before .before .before .before .before .before .before .before .before .of-coder .ensures) (c .before .before .before .before .before .before .before .before .before .before .before .before .before .start-states .ensures))) }
+returns c =
+    let sized = c .before .before .before .before .before .before .before .before .before .before in
+    let tabled = sized .before .before in
+    let k = tabled .before .before in
+    let a = k .before .before .before .before .args in
+    let h = coder-of k in
+    record {
+      counted = sized .places .ensures;
+      bytes =
+          places-right h (a .w) (now (a .received)) (sized .before .letters .ensures) (sized .places .ensures)
+          (c .before .before .decode-places .ensures _
+          (tables-of h (tabled .of-coder .ensures) (tabled .before .start-states .ensures)));
+    }
 
 pub string-spec : {M : Type 1} → statement M
 string-spec =

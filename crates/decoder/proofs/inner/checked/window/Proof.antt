@@ -1,10 +1,11 @@
+-- `checked::window` meets its contract: the answer on the tables of the file is right for the file.
+use denote.Ref.{now}
+use native.Mathlib.Omega.{arith}
 use Rattle.decoder.proofs.Decoding.{CoderOf, sound-of, outputs-of, tables-of, right-of}
 use Rattle.decoder.proofs.Accepting.{window-accepted}
 use Rattle.coder.proofs.Refusals.{letters-higher}
 use Rattle.coder.specs.File.{outputsOf}
 use Rattle.coder.specs.Limits.{maxOutputs}
-use denote.Ref.{now}
-use native.Mathlib.Omega.{arith}
 use Rattle.decoder.proofs.inner.checked.window.Statement.{statement}
 use Rattle.decoder.proofs.inner.checked.window.Tie as tie
 
@@ -22,10 +23,27 @@ of-coder-requires : tie.Need-of-coder-requires
 of-coder-requires c κs = sound-of (coder-of (c .before))
 
 decode-requires : tie.Need-decode-requires
-decode-requires c κs = let k = c .before .before .before .before .before .before .before .before in let a = k .before .before .before .args in let h = coder-of k in let s = sound-of h in let r = window-accepted _ _ _ _ (k .before .before .before .pre) in (record { coder = _; is = tables-of h (c .before .before .before .before .before .before .of-coder .ensures) (c .before .before .before .before .before .before .before .start-states .ensures) }, letters-higher (outputsOf (now (a .file))) maxOutputs (now (a .received)) (omega (arith, s .outputs-high, outputs-of h)) (r .letters), omega (arith, r .long))
+decode-requires c κs =
+    let tabled = c .before .before .before .before .before .before in
+    let k = tabled .before .before in
+    let a = k .before .before .before .args in
+    let h = coder-of k in
+    let s = sound-of h in
+    let r = window-accepted _ _ _ _ (k .before .before .before .pre) in (
+      record { coder = _; is = tables-of h (tabled .of-coder .ensures) (tabled .before .start-states .ensures) },
+      letters-higher (outputsOf (now (a .file))) maxOutputs (now (a .received)) (omega (arith, s .outputs-high, outputs-of h))
+          (r .letters),
+      omega (arith, r .long),
+    )
 
 returns : tie.Need-returns
-returns c = let k = c .before .before .before .before .before .before .before .before .before in let a = k .before .before .before .args in let h = coder-of k in right-of h (now (a .received)) (a .w .before) (c .decode .result) (c .decode .ensures _ (tables-of h (c .before .before .before .before .before .before .before .of-coder .ensures) (c .before .before .before .before .before .before .before .before .start-states .ensures)))
+returns c =
+    let tabled = c .before .before .before .before .before .before .before in
+    let k = tabled .before .before in
+    let a = k .before .before .before .args in
+    let h = coder-of k in
+    right-of h (now (a .received)) (a .w .before) (c .decode .result)
+    (c .decode .ensures _ (tables-of h (tabled .of-coder .ensures) (tabled .before .start-states .ensures)))
 
 pub window-spec : {M : Type 1} → statement M
 window-spec =

@@ -1,23 +1,24 @@
-use lib.ListN.{take}
-use Rattle.setting.specs.Words.{settingOfCoder}
-use Rattle.fitting.proofs.Answers.{right-byte}
+-- `places::decode_places` meets its contract: before each turn the first k places are decoded.
+use lib.ListN.{take, drop, length-drop, length}
 use lib.Seq.{length-take-le}
-use lib.ListN.{drop, length-drop}
-use Rattle.decoder.proofs.Writing.{written-none, written-more}
-use Rattle.decoder.specs.Places.{PlacesDecoded}
-use Rattle.fitting.specs.Tables.{TablesOf}
-use Rattle.coder.specs.declared.inner.tables.Coder.{Coder}
-use Rattle.mealy.proofs.ComesBack.{letters-take, letters-drop}
-use lib.ListN.{length}
 use Prim.Native.Nat.{_+_, _≤_, _-_}
 use mathlib.Core.Path.{_≡_, refl}
 use borrow.Author.Needs.{needs}
 use native.Mathlib.Omega.{arith}
+use Rattle.setting.specs.Words.{settingOfCoder}
+use Rattle.fitting.proofs.Answers.{right-byte}
+use Rattle.decoder.proofs.Writing.{written-none, written-more}
+use Rattle.decoder.specs.Places.{PlacesGiven}
+use Rattle.fitting.specs.Tables.{TablesOf}
+use Rattle.coder.specs.declared.inner.tables.Coder.{Coder}
+use Rattle.mealy.proofs.ComesBack.{letters-take, letters-drop}
 use Rattle.decoder.proofs.inner.places.decode_places.Statement.{statement}
 use Rattle.decoder.proofs.inner.places.decode_places.Tie as tie
 
 abbrev Inv-loop : tie.InvT-loop
-Inv-loop next successors predecessors letters starts received b n m output₀ k₀ output k = (k ≤ m) × (length output ≡ length output₀) × ((c : Coder) → TablesOf c next successors predecessors letters starts → PlacesDecoded c received b n k output₀ output)
+Inv-loop next successors predecessors letters starts received b n m output₀ k₀ output k =
+    (k ≤ m) × (length output ≡ length output₀) ×
+    PlacesGiven next successors predecessors letters starts received b n k output₀ output
 
 abbrev μ-loop : tie.MeasureT-loop
 μ-loop next successors predecessors letters starts received b n m output₀ k₀ output k = m - k
@@ -38,7 +39,19 @@ part-decode-end : tie.Need-part-decode-end Inv-loop μ-loop
 part-decode-end c = search needs
 
 decode-requires : tie.Need-decode-requires Inv-loop μ-loop
-decode-requires c κs = let p = c .before .before .before .before .before in let i = c .before .before .loop in let w = p .args .received .now in let e : i .k + p .args .n - i .k ≡ p .args .n = omega arith in let q = p .pre .windows in let t = c .before .loop-test .taken in let long : p .args .n ≤ length (drop (i .k) w) = simp length-drop (omega arith) in (p .pre .tables, search (letters-take, letters-drop, p .pre .below), rw (e, length-take-le (p .args .n) (drop (i .k) w) long) (p .pre .present))
+decode-requires c κs =
+    let p = c .before .before .before .before .before in
+    let a = p .args in
+    let i = c .before .before .loop in
+    let w = a .received .now in
+    let e : i .k + a .n - i .k ≡ a .n = omega arith in
+    let q = p .pre .windows in
+    let t = c .before .loop-test .taken in
+    let long : a .n ≤ length (drop (i .k) w) = simp length-drop (omega arith) in (
+      p .pre .tables,
+      search (letters-take, letters-drop, p .pre .below),
+      rw (e, length-take-le (a .n) (drop (i .k) w) long) (p .pre .present),
+    )
 
 answer-byte-requires : tie.Need-answer-byte-requires Inv-loop μ-loop
 answer-byte-requires c κs = search needs
@@ -53,7 +66,18 @@ loop-less : tie.Need-loop-less Inv-loop μ-loop
 loop-less c = search needs
 
 loop-again : tie.Need-loop-again Inv-loop μ-loop
-loop-again c = let p = c .before .before .before .before .before .before .before .args in let i = c .before .before .before .before .loop in let n : i .k + p .n - i .k ≡ p .n = omega arith in (search needs, search needs, λ d a. written-more (i .inv .2 d a) (omega (arith, c .before .before .before .before .before .before .before .pre, i .inv, c .before .before .before .loop-test)) (rw (c .answer-byte .ensures) (rw n at (right-byte (settingOfCoder d) (take (i .k + p .n - i .k) (drop (i .k) (p .received .now))) (p .b) (c .before .decode .result) (c .before .decode .ensures d a)))))
+loop-again c =
+    let s = c .before .before .before .before .before .before .before in
+    let p = s .args in
+    let i = c .before .before .before .before .loop in
+    let part = take (i .k + p .n - i .k) (drop (i .k) (p .received .now)) in
+    let n : i .k + p .n - i .k ≡ p .n = omega arith in (
+      search needs,
+      search needs,
+      λ d a. written-more (i .inv .2 d a) (omega (arith, s .pre, i .inv, c .before .before .before .loop-test))
+          (rw (c .answer-byte .ensures)
+          (rw n at (right-byte (settingOfCoder d) part (p .b) (c .before .decode .result) (c .before .decode .ensures d a)))),
+    )
 
 same-length : tie.Need-same-length Inv-loop μ-loop
 same-length c = search needs

@@ -1,8 +1,9 @@
+-- `between` meets its contract: the union over the states that are not in the rest.
+use borrow.Author.Needs.{needs}
+use native.Mathlib.Omega.{arith}
 use Rattle.mealy.proofs.Words.{holds-map}
 use Rattle.fitting.specs.Tables.{Between}
 use Rattle.mealy.proofs.Members.{LeastMember, least-member, Passed, passed-none, passed-more, passed-all}
-use borrow.Author.Needs.{needs}
-use native.Mathlib.Omega.{arith}
 use Rattle.fitting.proofs.inner.sets.between.Statement.{statement}
 use Rattle.fitting.proofs.inner.sets.between.Tie as tie
 
@@ -44,7 +45,10 @@ loop-less : tie.Need-loop-less Inv-loop μ-loop
 loop-less c = member (c .before .before) .taken .less
 
 loop-again : tie.Need-loop-again Inv-loop μ-loop
-loop-again c = let l = member (c .before .before) .below in passed-more (c .before .before .before .loop .inv) (c .before .before .loop-test .taken) (holds-map (λ x h. ((l, h .0), h .1)) (λ x h. (h .0 .1, h .1)) (c .«of-state» .ensures))
+loop-again c =
+    let l = member (c .before .before) .below in
+    passed-more (c .before .before .before .loop .inv) (c .before .before .loop-test .taken)
+    (holds-map (λ x h. ((l, h .0), h .1)) (λ x h. (h .0 .1, h .1)) (c .of-state .ensures))
 
 returns : tie.Need-returns Inv-loop μ-loop
 returns c = passed-all (c .before .loop .inv) (c .loop-test .left)

@@ -1,9 +1,9 @@
-use denote.Ref.{now}
 -- `image` meets its contract: the union over the members that are not in the rest.
+use denote.Ref.{now}
+use native.Mathlib.Omega.{arith}
 use Rattle.mealy.proofs.Members.{LeastMember, least-member, Passed, passed-none, passed-more, passed-all}
 use Rattle.fitting.specs.Tables.{Leads}
 use Rattle.fitting.proofs.Making.{leads-holds}
-use native.Mathlib.Omega.{arith}
 use Rattle.fitting.proofs.inner.sets.image.Statement.{statement}
 use Rattle.fitting.proofs.inner.sets.image.Tie as tie
 
@@ -42,7 +42,11 @@ loop-less : tie.Need-loop-less Inv-loop μ-loop
 loop-less c = member (c .before) .taken .less
 
 loop-again : tie.Need-loop-again Inv-loop μ-loop
-loop-again c = let p = c .before .before .before in let l = member (c .before) .below in passed-more (c .before .before .loop .inv) (c .before .loop-test .taken) (leads-holds (now (p .args .words)) (p .args .o) _ l (p .pre .0 (p .args .o) _ (p .pre .1) l))
+loop-again c =
+    let p = c .before .before .before in
+    let l = member (c .before) .below in
+    passed-more (c .before .before .loop .inv) (c .before .loop-test .taken)
+    (leads-holds (now (p .args .words)) (p .args .o) _ l (p .pre .0 (p .args .o) _ (p .pre .1) l))
 
 returns : tie.Need-returns Inv-loop μ-loop
 returns c = passed-all (c .before .loop .inv) (c .loop-test .left)

@@ -1,12 +1,12 @@
-use Rattle.fitting.proofs.Backward.{leads-all}
+-- `lead` meets its contract: the states before the letters from place k on.
 use denote.Ref.{now}
-use Rattle.coder.proofs.Refusals.{letter-at}
-use Rattle.fitting.proofs.Backward.{LeadsFrom, leads-none, leads-more, leads-empty}
-use Rattle.fitting.specs.Tables.{Leads}
 use lib.ListN.{length}
 use Prim.Native.Nat.{_≤_}
 use borrow.Author.Needs.{needs}
 use native.Mathlib.Omega.{arith}
+use Rattle.fitting.proofs.Backward.{leads-all, LeadsFrom, leads-none, leads-more, leads-empty}
+use Rattle.coder.proofs.Refusals.{letter-at}
+use Rattle.fitting.specs.Tables.{Leads}
 use Rattle.fitting.proofs.inner.sets.lead.Statement.{statement}
 use Rattle.fitting.proofs.inner.sets.lead.Tie as tie
 

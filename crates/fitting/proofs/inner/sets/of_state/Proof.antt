@@ -1,10 +1,11 @@
-use Rattle.mealy.proofs.Words.{holds-map}
+-- `of_state` meets its contract: the union over the letters that are not in the rest.
 use Prim.Native.Nat.{_+_, _*_}
 use mathlib.Core.Path.{_≡_, refl}
 use lib.ListN.{getD}
+use native.Mathlib.Omega.{arith}
+use Rattle.mealy.proofs.Words.{holds-map}
 use Rattle.mealy.specs.Word.{Has}
 use Rattle.mealy.proofs.Members.{LeastMember, least-member, Passed, passed-none, passed-more, passed-all}
-use native.Mathlib.Omega.{arith}
 use Rattle.fitting.proofs.inner.sets.of_state.Statement.{statement}
 use Rattle.fitting.proofs.inner.sets.of_state.Tie as tie
 

@@ -1,10 +1,10 @@
-use Prim.Native.Nat.{_<_}
+-- `by_output` meets its contract: the words hold what the entries below place p give.
+use Prim.Native.Nat.{_<_, _*_, _-_, _≤_}
 use lib.ListN.{getD}
-use Rattle.fitting.proofs.Making.{Made, made-none, made-more}
-use Prim.Native.Nat.{_*_, _-_, _≤_}
 use mathlib.Core.Path.{_≡_, refl}
 use borrow.Author.Needs.{needs}
 use native.Mathlib.Omega.{arith}
+use Rattle.fitting.proofs.Making.{Made, made-none, made-more}
 use Rattle.fitting.proofs.inner.tables.by_output.Statement.{statement}
 use Rattle.fitting.proofs.inner.tables.by_output.Tie as tie
 

@@ -1,9 +1,9 @@
-use Rattle.mealy.proofs.Words.{holds-none}
-use Rattle.fitting.proofs.Making.{holds-shifted}
+-- `given` meets its contract: the value of an entry, or nothing.
 use mathlib.Core.Path.{refl, sym}
 use borrow.Author.Needs.{needs}
 use native.Mathlib.Omega.{arith}
-use borrow.Author.Needs.{needs}
+use Rattle.mealy.proofs.Words.{holds-none}
+use Rattle.fitting.proofs.Making.{holds-shifted}
 use Rattle.fitting.proofs.inner.tables.given.Statement.{statement}
 use Rattle.fitting.proofs.inner.tables.given.Tie as tie
 

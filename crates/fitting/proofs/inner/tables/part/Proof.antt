@@ -1,4 +1,4 @@
-use borrow.Author.Needs.{needs}
+-- `part` meets its contract.
 use borrow.Author.Needs.{needs}
 use Rattle.fitting.proofs.inner.tables.part.Statement.{statement}
 use Rattle.fitting.proofs.inner.tables.part.Tie as tie

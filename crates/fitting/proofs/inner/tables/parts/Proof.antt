@@ -1,8 +1,9 @@
-use Rattle.fitting.specs.Tables.{placePart}
-use Rattle.coder.proofs.Fill.{Filled, filled-none, filled-more, filled-all}
+-- `parts` meets its contract: the first p places are set.
 use Prim.Native.Nat.{_≤_, _-_}
 use borrow.Author.Needs.{needs}
 use native.Mathlib.Omega.{arith}
+use Rattle.fitting.specs.Tables.{placePart}
+use Rattle.coder.proofs.Fill.{Filled, filled-none, filled-more, filled-all}
 use Rattle.fitting.proofs.inner.tables.parts.Statement.{statement}
 use Rattle.fitting.proofs.inner.tables.parts.Tie as tie
 

@@ -48,7 +48,13 @@ present-requires c κs =
     }
 
 returns : tie.Need-returns
-returns c = let p = c .before .before .before .before .before .before in let a = p .args in let w = now (a .window) in window-fits (now (a .next)) (now (a .successors)) (now (a .letters)) w (a .b) (a .starts) (p .pre .2) (c .before .before .byte .ensures .0) (c .before .before .before .follow .ensures) (rw (rest w (a .b)) at (c .present .ensures (now (a .successors)) (p .pre .0)))
+returns c =
+    let p = c .before .before .before .before .before .before in
+    let a = p .args in
+    let w = now (a .window) in
+    let seen = c .before .before in
+    window-fits (now (a .next)) (now (a .successors)) (now (a .letters)) w (a .b) (a .starts) (p .pre .2) (seen .byte .ensures .0)
+    (seen .before .follow .ensures) (rw (rest w (a .b)) at (c .present .ensures (now (a .successors)) (p .pre .0)))
 
 pub fitting-spec : {M : Type 1} → statement M
 fitting-spec =
