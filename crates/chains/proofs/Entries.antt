@@ -8,7 +8,10 @@ use lib.ListN.{getD}
 use lib.Dec.{ltb, eqb}
 use borrow.Author.Tests.{lt-ltb, le-ltb, ltb-true, eq-eqb, eqb-true}
 use Rattle.coder.proofs.Refusals.{both-true}
-use Rattle.chains.specs.Chain.{isEntry, hasKey}
+use Rattle.coder.specs.Table.{Sound}
+use Rattle.coder.specs.declared.inner.tables.Coder.{Coder}
+use Rattle.coder.proofs.Tables.{output-high}
+use Rattle.chains.specs.Chain.{isEntry, hasKey, Keys}
 
 pub is-entry : (n i p : ℕ) → p / 16 < n → p % 16 < i → isEntry n i p ≡ true
 unfolding isEntry
@@ -52,3 +55,12 @@ module _ (keys : List ℕ) (n i : ℕ) where
   pub key-entry : (k p : ℕ) → hasKey keys n i k p ≡ true → (isEntry n i p ≡ true) × (getD keys p 0 ≡ k)
   unfolding hasKey
   key-entry k p e = let b = both-true _ _ e in (b .0, eqb-true _ _ (b .1))
+
+-- the output letters of a sound coder are keys
+pub output-keys : (c : Coder) → Sound c → Keys (c .output) (c .states) (c .inputs)
+output-keys c s =
+    record {
+      states = s .states-high;
+      inputs = s .inputs-high;
+      below = λ p. omega (arith, output-high c s p, s .outputs-high);
+    }

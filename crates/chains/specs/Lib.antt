@@ -1,3 +1,4 @@
 -- What the contracts of the chains cite.
 pub mod Chain
 pub mod Rows
+pub mod Parts

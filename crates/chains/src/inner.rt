@@ -1,5 +1,7 @@
 // No public calls: the chains and rows of a coder's entries, for the library's own crates.
 ghost use mathlib.Core.Path.{_≡_};
+ghost use Prim.Native.Nat.{_<_};
+ghost use Rattle.chains.specs.Parts.{placePart, placeParts};
 ghost use Rattle.chains.specs.Chain.{Keys, Chained};
 ghost use Rattle.chains.specs.Rows.{Rowed};
 
@@ -67,4 +69,29 @@ pub fn rows_by_key(keys: &[u8; 256], states: usize, inputs: usize) -> Rows
         start[k] = n as u16;
     }
     Rows { start, entries }
+}
+
+// The state of place p of a coder's tables, or its input letter.
+fn part(letters: bool, p: usize) -> u8
+    requires { ⌜ p < 256 ⌝ }
+    ensures { λ r. ⌜ r ≡ placePart letters p ⌝ }
+{
+    if letters {
+        (p % 16) as u8
+    } else {
+        (p / 16) as u8
+    }
+}
+
+// The state of each place, or its input letter.
+pub fn parts(letters: bool) -> [u8; 256]
+    ensures { λ r. ⌜ r ≡ placeParts letters ⌝ }
+{
+    let mut a = [0u8; 256];
+    let mut p = 0;
+    while p < 256 {
+        a[p] = part(letters, p);
+        p += 1;
+    }
+    a
 }

@@ -12,7 +12,7 @@ use Rattle.mealy.specs.Walk.{Part}
 use Rattle.mealy.proofs.Edges.{equal-edge}
 use Rattle.mealy.proofs.Walks.{walk-nil, walk-cons, walk-tail}
 use Rattle.mealy.proofs.PairParts.{letters-append}
-use Rattle.mealy.proofs.SameSettings.{letter-below}
+use Rattle.mealy.proofs.Letters.{letter-at}
 use Rattle.coder.specs.Limits.{maxStates}
 use Rattle.coder.specs.Table.{tableAt, machineOfCoder}
 use Rattle.coder.specs.declared.inner.tables.Coder.{Coder}
@@ -46,8 +46,8 @@ module _ {c : Coder} {p : LoopedPair} {next output bytes : List ℕ} (w : PairTa
       {u′ v′ : ℕ} → 2 * place + 1 < length bytes → x ≡ y → u′ ≡ tableAt next u i → v′ ≡ tableAt next v j →
       Edge (machineOfCoder c) u v (letterAt p first place) (letterAt p second place) u′ v′
   table-edge l e eu ev = record {
-    below₁ = rw (← first-is, ei) (letter-below (c .inputs) bytes (2 * place) (w .below) (omega arith));
-    below₂ = rw (← second-is, ej) (letter-below (c .inputs) bytes (2 * place + 1) (w .below) l);
+    below₁ = rw (← first-is, ei) (letter-at (c .inputs) bytes (w .below) (2 * place) (omega arith));
+    below₂ = rw (← second-is, ej) (letter-at (c .inputs) bytes (w .below) (2 * place + 1) l);
     output = sym output-first ∙ e ∙ output-second;
     to₁ = sym (rw (w .next-is, ← first-is) eu);
     to₂ = sym (rw (w .next-is, ← second-is) ev);

@@ -10,7 +10,7 @@ use Rattle.mealy.specs.Setting.{anyState}
 use Rattle.mealy.specs.LoopedPair.{LoopedPair, mark, unlooped, letters}
 use Rattle.mealy.specs.Walk.{Loop, Parts}
 use Rattle.mealy.proofs.Walks.{walk-ends, walk-start}
-use Rattle.mealy.proofs.SameSettings.{letter-below}
+use Rattle.mealy.proofs.Letters.{letter-at}
 use Rattle.coder.specs.Limits.{maxInputs}
 use Rattle.coder.specs.Refusal.{Judges}
 use Rattle.coder.specs.Table.{machineOfCoder}
@@ -43,7 +43,7 @@ module _ {next output : List ℕ} {p : LoopedPair} (a : CheckAsked next output p
   pub mark-low : (k : ℕ) → k ≤ 2 * mark p + 1 → getD (p .bytes) k 0 < maxInputs
   mark-low k l =
       let h = a .of .tables in
-      omega (arith, h .sound .inputs-high, letter-below (a .c .inputs) (p .bytes) k (h .below) (omega (arith, a .of .size)))
+      omega (arith, h .sound .inputs-high, letter-at (a .c .inputs) (p .bytes) (h .below) k (omega (arith, a .of .size)))
 
 -- once the back loop closes and the letters between the loops have equal outputs, the forward loop decides
 pub parts-judged :

@@ -116,11 +116,6 @@ letters-below n (x ∷ xs) e =
     let a = both-true (ltb x n) (lettersBelow n xs) e in
     (ltb-true x n (a .0), letters-below n xs (a .1))
 
-pub letter-at : (n : ℕ) (xs : List ℕ) → Letters n xs → (k : ℕ) → k < length xs → getD xs k 0 < n
-letter-at n [] h k l = absurd (omega arith)
-letter-at n (x ∷ xs) h zero l = h .0
-letter-at n (x ∷ xs) h (suc k) l = letter-at n xs (h .1) k (le-of-suc-le-suc l)
-
 pub letters-higher : (n m : ℕ) (xs : List ℕ) → n ≤ m → Letters n xs → Letters m xs
 letters-higher n m [] l h = tt
 letters-higher n m (x ∷ xs) l h = (let p = h .0 in omega arith, letters-higher n m xs l (h .1))

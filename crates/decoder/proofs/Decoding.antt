@@ -17,6 +17,7 @@ use Rattle.setting.specs.Words.{settingOfCoder}
 use Rattle.setting.proofs.Numbers.{holds-all}
 use Rattle.setting.proofs.Same.{coder-sound, coder-machine}
 use Rattle.chains.specs.Chain.{Keys}
+use Rattle.chains.proofs.Entries.{output-keys}
 use Rattle.chains.specs.Rows.{Rowed}
 use Rattle.fitting.specs.Answer.{Right, RightByte}
 use Rattle.fitting.specs.declared.Answer.{Answer}
@@ -48,13 +49,7 @@ module _ {c : Coder} {f : List ℕ} (h : CoderOf c f) where
   outputs-of = ap (λ (d : Coder). d .outputs) (h .is)
 
   pub keys-of : Keys (c .output) (c .states) (c .inputs)
-  keys-of =
-      let s = sound-of in
-      record {
-        states = s .states-high;
-        inputs = s .inputs-high;
-        below = λ p. omega (arith, output-high c s p, s .outputs-high);
-      }
+  keys-of = output-keys c sound-of
 
   pub rows-of :
       {start entries : List ℕ} →

@@ -17,11 +17,12 @@ use Rattle.mealy.proofs.Images.{All, fitting-within, fitting-fits, fits-fitting
 use Rattle.coder.specs.Table.{machineOfCoder, Sound}
 use Rattle.coder.specs.declared.inner.tables.Coder.{Coder}
 use Rattle.coder.proofs.Tables.{table-at, table-place, next-high, output-high}
+use Rattle.chains.specs.Parts.{placePart, placeParts}
 use Rattle.setting.specs.Words.{settingOfCoder}
 use Rattle.fitting.specs.Answer.{Right, answerOf}
 use Rattle.fitting.specs.declared.Answer.{Answer}
 use Rattle.fitting.proofs.Answers.{holds-right}
-use Rattle.fitting.specs.Tables.{placePart, placeParts, GivenBelow, EntriesAsked, Leads, OnLetter, FittingIn, TablesAsked, TablesOf}
+use Rattle.fitting.specs.Tables.{GivenBelow, EntriesAsked, Leads, OnLetter, FittingIn, TablesAsked, TablesOf}
 
 -- what making the tables asks, of a sound coder
 part-low : (letters : Bool) (p : ℕ) → p < 256 → placePart letters p < 16

@@ -10,16 +10,10 @@ use Rattle.mealy.specs.Word.{Has, Holds}
 use Rattle.mealy.specs.Image.{Transitions, Fitting}
 use Rattle.coder.specs.Table.{table, Sound}
 use Rattle.coder.specs.declared.inner.tables.Coder.{Coder}
+use Rattle.chains.specs.Parts.{placeParts}
 use Rattle.setting.specs.Words.{settingOfCoder}
 use Rattle.fitting.specs.Answer.{Right}
 use Rattle.fitting.specs.declared.Answer.{Answer}
-
--- the state of each place of a coder's tables or, with `letters`, its input letter
-abbrev pub placePart : Bool → ℕ → ℕ
-placePart letters p = cond letters (p % 16) (p / 16)
-
-abbrev pub placeParts : Bool → List ℕ
-placeParts letters = table 256 (placePart letters)
 
 -- the entry at place p, if there is one, has the value x
 abbrev pub Gives : List ℕ → ℕ → ℕ → ℕ → Type 0

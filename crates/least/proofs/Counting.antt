@@ -22,7 +22,7 @@ use Rattle.product.specs.Conflict.{Conflicting, backOf, forwardOf}
 use Rattle.product.proofs.Entries.{entry-below, far-below}
 use Rattle.coder.proofs.Tables.{output-high}
 use Rattle.mealy.specs.Product.{forward}
-use Rattle.least.specs.Need.{Counted, Source, Sources, raised, Grows}
+use Rattle.least.specs.Need.{Counted, CountedAt, EachCounted, raised, Grows}
 use Rattle.least.specs.Need.{CountAsked, CountedOne, RowOf, RowDone, ConflictsAsked, ConflictsDone}
 
 -- ---- the table with one number taken in
@@ -52,9 +52,9 @@ module _ (worst : List ℕ) (f x : ℕ) where
     raised-least = raised-cases (λ w. x ≤ getD w f 0) (λ l. rw (getD-set-same worst f x 0 inside) (omega arith)) (λ l. l)
 
     pub raised-sources :
-        {c : Coder} {conflicts : List ℕ} {backs forwards : List (List ℕ)} → Source c conflicts backs forwards f x →
-        Sources c conflicts backs forwards worst → Sources c conflicts backs forwards (raised worst f x)
-    raised-sources {c} {conflicts} {backs} {forwards} s h = raised-cases (Sources c conflicts backs forwards)
+        {c : Coder} {conflicts : List ℕ} {backs forwards : List (List ℕ)} → CountedAt c conflicts backs forwards f x →
+        EachCounted c conflicts backs forwards worst → EachCounted c conflicts backs forwards (raised worst f x)
+    raised-sources {c} {conflicts} {backs} {forwards} s h = raised-cases (EachCounted c conflicts backs forwards)
         (λ l g m. elim (ℕ-discrete g f) [
           | yes e ↦ (let z : getD (set worst f x) g 0 ≡ x = rw e (getD-set-same worst f x 0 inside) in rw (z, e) s)
           | no e ↦ (let z = getD-set-other worst f g x 0 e in rw z (h g (rw z at m)))
@@ -111,7 +111,7 @@ module _ (c : Coder) (conflicts : List ℕ) (backs forwards : List (List ℕ)) (
     pub entry : (q : ℕ) → y ≡ suc q → Key q ≡ true
     pub size : length worst ≡ 256
     pub grows : Grows before worst
-    pub sources : Sources c conflicts backs forwards before → Sources c conflicts backs forwards worst
+    pub sources : EachCounted c conflicts backs forwards before → EachCounted c conflicts backs forwards worst
     pub counted : (q : ℕ) → Conflicting c conflicts p q → y < suc q → Counted c backs forwards worst p q
 
   conflicting-key : (q : ℕ) → Conflicting c conflicts p q → Key q ≡ true
@@ -150,7 +150,7 @@ module _ (c : Coder) (conflicts : List ℕ) (backs forwards : List (List ℕ)) (
     -- the entry at y - 1 is seen to: it does not conflict, or it is counted in the table `later`
     row-next :
         {y′ : ℕ} {later : List ℕ} → y′ ≡ getD previous (y - 1) 0 → length later ≡ 256 → Grows worst later →
-        (Sources c conflicts backs forwards worst → Sources c conflicts backs forwards later) →
+        (EachCounted c conflicts backs forwards worst → EachCounted c conflicts backs forwards later) →
         (Conflicting c conflicts p (y - 1) → Counted c backs forwards later p (y - 1)) → RowAt before y′ later
     row-next {y′} e s g h k = record {
       high = let l = a .high in omega (arith, row-less e);
@@ -223,7 +223,7 @@ module _ (c : Coder) (conflicts : List ℕ) (backs forwards : List (List ℕ)) (
 module _ (c : Coder) (conflicts : List ℕ) (backs forwards : List (List ℕ)) (sound : Sound c) where
   pub record RowsTo (before : List ℕ) (a : ℕ) (worst : List ℕ) : Type 0 where
     pub size : length worst ≡ 256
-    pub sources : Sources c conflicts backs forwards before → Sources c conflicts backs forwards worst
+    pub sources : EachCounted c conflicts backs forwards before → EachCounted c conflicts backs forwards worst
     pub counted : (p q : ℕ) → p < a → Conflicting c conflicts p q → Counted c backs forwards worst p q
 
   pub rows-start : {before : List ℕ} → length before ≡ 256 → RowsTo before 0 before

@@ -25,7 +25,7 @@ use Rattle.product.specs.Rounds.{StartIn}
 use Rattle.product.specs.Conflict.{Conflicting, backOf, forwardOf}
 use Rattle.product.proofs.Entries.{source-at, entry-below, far-below, entries-edge, edge-entries}
 use Rattle.product.proofs.Depths.{pairs-high, start-decided, start-bounded}
-use Rattle.least.specs.Need.{Counted, Sources, Needs, Chosen}
+use Rattle.least.specs.Need.{Counted, EachCounted, Needs, Chosen}
 use Rattle.values.specs.declared.Window.{Window}
 
 -- a pair that is in level k has a depth above k, or is endless
@@ -103,7 +103,7 @@ module _ (c : Coder) (starts : ℕ) (conflicts : List ℕ) (sound : Sound c) (ba
       }
 
   module _ (worst need : List ℕ) (counted : (p q : ℕ) → Conflicting c conflicts p q → Counted c backs forwards worst p q)
-      (from : Sources c conflicts backs forwards worst) (needs : Needs worst need) where
+      (from : EachCounted c conflicts backs forwards worst) (needs : Needs worst need) where
     -- what is needed was counted at an edge to a pair that stands at level a forward
     record NeedSource (a : ℕ) : Type 0 where
       p : ℕ

@@ -21,15 +21,15 @@ pub record Counted (c : Coder) (backs forwards : List (List ℕ)) (worst : List 
   pub finite : BothEndless (c .next) backs forwards p q → ⊥
 
 -- what the table has was counted at some edge
-pub record Source (c : Coder) (conflicts : List ℕ) (backs forwards : List (List ℕ)) (f x : ℕ) : Type 0 where
+pub record CountedAt (c : Coder) (conflicts : List ℕ) (backs forwards : List (List ℕ)) (f x : ℕ) : Type 0 where
   pub p : ℕ
   pub q : ℕ
   pub conflicting : Conflicting c conflicts p q
   pub forward-is : forwardOf (c .next) forwards p q ≡ f
   pub back-is : backOf backs p q ≡ x
 
-abbrev pub Sources : Coder → List ℕ → List (List ℕ) → List (List ℕ) → List ℕ → Type 0
-Sources c conflicts backs forwards worst = (f : ℕ) → 0 < getD worst f 0 → Source c conflicts backs forwards f (getD worst f 0)
+abbrev pub EachCounted : Coder → List ℕ → List (List ℕ) → List (List ℕ) → List ℕ → Type 0
+EachCounted c conflicts backs forwards worst = (f : ℕ) → 0 < getD worst f 0 → CountedAt c conflicts backs forwards f (getD worst f 0)
 
 -- the table with x taken in at f
 unfoldable pub raised : List ℕ → ℕ → ℕ → List ℕ
@@ -74,7 +74,7 @@ pub record RowDone (c : Coder) (conflicts : List ℕ) (backs forwards : List (Li
   pub high : r ≤ 256
   pub size : length after ≡ 256
   pub grows : Grows before after
-  pub sources : Sources c conflicts backs forwards before → Sources c conflicts backs forwards after
+  pub sources : EachCounted c conflicts backs forwards before → EachCounted c conflicts backs forwards after
   pub none : r ≡ 0 → (q : ℕ) → Conflicting c conflicts p q → Counted c backs forwards after p q
   pub some : 0 < r → EndlessConflict c conflicts backs forwards p (r - 1)
 
@@ -93,7 +93,7 @@ pub record ConflictsAsked (c : Coder) (last previous before : List ℕ) : Type 0
 pub record ConflictsDone (c : Coder) (conflicts : List ℕ) (backs forwards : List (List ℕ))
     (before : List ℕ) (e : Edge) (after : List ℕ) : Type 0 where
   pub size : length after ≡ 256
-  pub sources : Sources c conflicts backs forwards before → Sources c conflicts backs forwards after
+  pub sources : EachCounted c conflicts backs forwards before → EachCounted c conflicts backs forwards after
   pub none : e .x ≡ 0 → (p q : ℕ) → Conflicting c conflicts p q → Counted c backs forwards after p q
   pub found : 0 < e .x → 0 < e .y
   pub some : 0 < e .x → EndlessConflict c conflicts backs forwards (e .x - 1) (e .y - 1)

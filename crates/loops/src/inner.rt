@@ -103,7 +103,7 @@ pub fn find<'a>(
     ensures { λ r. ⌜ FindDone c (now (bx .entry)) (now (by .entry)) (now (fx .entry)) (now (fy .entry)) e r (now (letters .entry)) (now (letters .exit)) ⌝ }
 {
     let states = c.states;
-    let source = product::inner::source();
+    let source = chains::inner::parts(false);
     let p = e.x - 1;
     let q = e.y - 1;
     let start = Coder::STATES * (p / Coder::INPUTS) + q / Coder::INPUTS;

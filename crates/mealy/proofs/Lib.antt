@@ -1,4 +1,5 @@
 -- The laws.
+pub mod Letters
 pub mod Edges
 pub mod Levels
 pub mod Runs

@@ -9,15 +9,10 @@ use Rattle.mealy.specs.Setting.{Setting, Same, Closed}
 use Rattle.mealy.specs.Window.{Works}
 use Rattle.mealy.specs.Order.{Relation, Least}
 use Rattle.mealy.specs.Answer.{Fits, Answer, letter, none, several, Answers}
+use Rattle.mealy.proofs.Letters.{letter-at}
 use Rattle.mealy.specs.LoopedPair.{LoopedPair, Run, first, second, letterAt, lettersFrom, mark, letters, Valid}
 
--- ---- letters of runs are input letters
-
-pub letter-below : (n : ℕ) (xs : List ℕ) (k : ℕ) → Letters n xs → k < length xs → getD xs k 0 < n
-letter-below n [] k l h = absurd (omega arith)
-letter-below n (x ∷ xs) zero l h = l .0
-letter-below n (x ∷ xs) (suc k) l h = letter-below n xs k (l .1) (omega arith)
-
+-- the letters of a pair are input letters
 pub pair-letter-below :
     (n : ℕ) (p : LoopedPair) (r : Run) (m place k at : ℕ) → Letters n (lettersFrom p r place m) → k < m → place + k ≡ at →
     letterAt p r at < n
@@ -36,7 +31,7 @@ module _ (M : Machine) {A B : ℕ → Type 0} {C D : ℕ → ℕ → Type 0} whe
       Works (over M A C) b a → Works (over M B D) b a
   works-over to con b a f s t xs ys p q w c =
       f s t xs ys (to s p) (to t q) w
-      (con _ _ (letter-below (M .inputs) xs b (w .letters₁) (omega arith)) (letter-below (M .inputs) ys b (w .letters₂) (omega arith)) c)
+      (con _ _ (letter-at (M .inputs) xs (w .letters₁) b (omega arith)) (letter-at (M .inputs) ys (w .letters₂) b (omega arith)) c)
 
   valid-over :
       ((s : ℕ) → A s → B s) → ((i j : ℕ) → i < M .inputs → j < M .inputs → C i j → D i j) → (p : LoopedPair) →

@@ -1,17 +1,18 @@
 -- Edges of the product machine as pairs of entries, in either direction.
-use Prim.Native.Nat.{ℕ, _/_}
+use Prim.Native.Nat.{ℕ}
 use mathlib.Core.Path.{_≡_}
-use mathlib.Core.Bool.{true}
+use mathlib.Core.Bool.{true, false}
 use mathlib.Core.List.{List}
 use lib.ListN.{getD}
 use Rattle.mealy.specs.Product.{Direction, back, forward}
-use Rattle.coder.specs.Table.{table, Sound}
+use Rattle.coder.specs.Table.{Sound}
 use Rattle.coder.specs.declared.inner.tables.Coder.{Coder}
+use Rattle.chains.specs.Parts.{placeParts}
 use Rattle.chains.specs.Chain.{isEntry, Chained}
 
 -- the state of the entry at each place
 abbrev pub sources : List ℕ
-sources = table 256 (λ p. p / 16)
+sources = placeParts false
 
 -- The ends of an entry: followed forward it leads from its state, the near end, to its next state, the far end; followed back it
 -- is the other way round.

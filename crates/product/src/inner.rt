@@ -10,9 +10,10 @@ ghost use Rattle.mealy.specs.Product.{Direction, back as backward, forward as o
 ghost use Rattle.coder.specs.Refusal.{Judges};
 ghost use Rattle.coder.specs.Table.{Sound};
 ghost use Rattle.product.specs.Depth.{at};
-ghost use Rattle.product.specs.Entries.{sources, nearEnds, farEnds};
+ghost use Rattle.product.specs.Entries.{nearEnds, farEnds};
 ghost use Rattle.product.specs.Rounds.{SeekAsked, SeekDone, RoundAsked, RoundDone, StartIn, BothStart};
 ghost use Rattle.product.specs.Rounds.{Started, Kept, FirstEdges, AlongAsked, DepthsFound};
+use chains::inner::parts;
 use chains::inner::wide;
 use coder::inner::bytes::number;
 use coder::inner::tables::Coder;
@@ -25,19 +26,6 @@ pub const ENDLESS: u8 = 255;
 pub struct Edge {
     pub x: usize,
     pub y: usize,
-}
-
-// The state of the entry at each place.
-pub fn source() -> [u8; 256]
-    ensures { λ r. ⌜ r ≡ sources ⌝ }
-{
-    let mut s = [0u8; 256];
-    let mut p = 0;
-    while p < 256 {
-        s[p] = (p / Coder::INPUTS % 256) as u8;
-        p += 1;
-    }
-    s
 }
 
 // Whether the entries at places p and q have one output letter and far ends of depth above k.
@@ -234,7 +222,7 @@ pub fn back(c: Coder, starts: u16, xs: &mut [u16; 256], ys: &mut [u16; 256]) -> 
     requires { ⌜ Sound c × Kept (now xs) (now ys) ⌝ }
     ensures { λ r. ⌜ DepthsFound c backward starts r (now (xs .exit)) (now (ys .exit)) ⌝ }
 {
-    let states = source();
+    let states = parts(false);
     along(c, &c.next, &states, starts, xs, ys)
 }
 
@@ -243,6 +231,6 @@ pub fn forward(c: Coder, starts: u16, xs: &mut [u16; 256], ys: &mut [u16; 256]) 
     requires { ⌜ Sound c × Kept (now xs) (now ys) ⌝ }
     ensures { λ r. ⌜ DepthsFound c onward starts r (now (xs .exit)) (now (ys .exit)) ⌝ }
 {
-    let states = source();
+    let states = parts(false);
     along(c, &states, &c.next, starts, xs, ys)
 }

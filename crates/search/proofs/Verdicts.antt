@@ -17,7 +17,7 @@ use Rattle.product.specs.Rounds.{DepthsFound}
 use Rattle.product.specs.declared.inner.Edge.{Edge}
 use Rattle.coder.proofs.Tables.{output-high}
 use Rattle.coder.proofs.Fill.{getD-zeros}
-use Rattle.least.specs.Need.{Sources, ConflictsDone, Needs, Chosen}
+use Rattle.least.specs.Need.{EachCounted, ConflictsDone, Needs, Chosen}
 use Rattle.values.specs.Pair.{pairOf}
 use Rattle.values.specs.declared.Window.{Window}
 use Rattle.least.proofs.Meaning.{need-finite, least-window, sides-small}
@@ -28,15 +28,8 @@ use Rattle.search.specs.declared.Verdict.the-variants.{Least, NoDecoder}
 
 -- ---- on a checked coder
 
-pub output-keys : (c : Coder) → Sound c → Keys (c .output) (c .states) (c .inputs)
-output-keys c s = record {
-  states = s .states-high;
-  inputs = s .inputs-high;
-  below = λ p. omega (arith, output-high c s p, s .outputs-high);
-}
-
 -- a table of zeros has nothing to show a source of
-pub no-sources : (c : Coder) (conflicts : List ℕ) (backs forwards : List (List ℕ)) → Sources c conflicts backs forwards (replicate 256 0)
+pub no-sources : (c : Coder) (conflicts : List ℕ) (backs forwards : List (List ℕ)) → EachCounted c conflicts backs forwards (replicate 256 0)
 no-sources c conflicts backs forwards f l = absurd (omega (arith, getD-zeros 256 f))
 
 module _ (c : Coder) (starts : ℕ) (conflicts : List ℕ) (sound : Sound c)

@@ -4,38 +4,14 @@ ghost use Prim.Native.Nat.{ℕ, _<_};
 ghost use lib.ListN.{length, getD};
 ghost use Rattle.mealy.specs.Word.{Holds};
 ghost use Rattle.coder.specs.Table.{Sound};
-ghost use Rattle.fitting.specs.Tables.{placePart, placeParts, EntriesAsked, Gives, ByOutput, SetsOf};
+ghost use Rattle.fitting.specs.Tables.{EntriesAsked, Gives, ByOutput, SetsOf};
+use chains::inner::parts;
 use coder::inner::tables::Coder;
 
 fn none() -> [u16; 1024]
     ensures { λ r. ⌜ (length r ≡ 1024) × ((p : ℕ) → getD r p 0 ≡ 0) ⌝ }
 {
     [0u16; 1024]
-}
-
-// The state of place p of a coder's tables, or its input letter.
-fn part(letters: bool, p: usize) -> u8
-    requires { ⌜ p < 256 ⌝ }
-    ensures { λ r. ⌜ r ≡ placePart letters p ⌝ }
-{
-    if letters {
-        (p % Coder::INPUTS) as u8
-    } else {
-        (p / Coder::INPUTS) as u8
-    }
-}
-
-// The state of each place, or its input letter.
-pub fn parts(letters: bool) -> [u8; 256]
-    ensures { λ r. ⌜ r ≡ placeParts letters ⌝ }
-{
-    let mut a = [0u8; 256];
-    let mut p = 0;
-    while p < 256 {
-        a[p] = part(letters, p);
-        p += 1;
-    }
-    a
 }
 
 // The value of the entry at place p; nothing where there is no entry.

@@ -25,7 +25,7 @@ abbrev far-pair : tie.Start → ℕ
 far-pair s = 16 * getD (s .args .t1 .next) (s .args .e .x - 1) 0 + getD (s .args .t1 .next) (s .args .e .y - 1) 0
 
 -- the states of the entries and the start of the call, seen from where the walks begin
-abbrev sourced : tie.After-number2 → tie.After-source
+abbrev sourced : tie.After-number2 → tie.After-parts
 sourced n = n .before .before .before .before .before .before
 
 abbrev start : tie.After-number2 → tie.Start
@@ -46,7 +46,7 @@ returned :
     (w : tie.After-walk) →
     Repeats (now (start (before-back w) .args .bx)) (now (start (before-back w) .args .by)) sources
     (start (before-back w) .args .t1 .states) (near-pair (start (before-back w))) (w .walk .result)
-returned w = rw (sourced (before-back w) .source .ensures) at (w .walk .ensures)
+returned w = rw (sourced (before-back w) .parts .ensures) at (w .walk .ensures)
 
 back-steps : (w : tie.After-walk) → w .walk .result .steps ≤ 256
 back-steps w = let n = before-back w in back-high _ _ _ (start n .pre .from) refl (ends n) (returned w)
@@ -68,14 +68,14 @@ written :
     (x : tie.After-write) →
     Wrote (now (start (begun x) .args .bx)) (now (start (begun x) .args .by)) sources (near-pair (start (begun x)))
     (walk-back x .walk .result .steps) 0 false (now (start (begun x) .args .letters)) (x .write .last .1 .1 .1 .1 .1 .1 .1 .0)
-written x = rw (sourced (begun x) .source .ensures) at (x .write .ensures)
+written x = rw (sourced (begun x) .parts .ensures) at (x .write .ensures)
 
 -- the lent buffer stays as long as it was
 wide-still : (x : tie.After-write) → wanted ≤ length (x .write .last .1 .1 .1 .1 .1 .1 .1 .0)
 wide-still x = omega (arith, written x .size, start (begun x) .pre .room)
 
-source-requires : tie.Need-source-requires
-source-requires c κs = search needs
+parts-requires : tie.Need-parts-requires
+parts-requires c κs = search needs
 
 sub-p : tie.Need-sub-p
 sub-p c = search needs
@@ -110,7 +110,7 @@ add-end c = search needs
 walk-requires : tie.Need-walk-requires
 walk-requires c κs =
     let n = c .before in
-    rw (sourced n .source .ensures) (back-follows _ _ _ (start n .pre .from) refl (ends n))
+    rw (sourced n .parts .ensures) (back-follows _ _ _ (start n .pre .from) refl (ends n))
 
 walk-requires-2 : tie.Need-walk-requires-2
 walk-requires-2 c κs = let n = before-back (c .before .before) in forward-follows _ _ _ (start n .pre .from) refl (ends n)
@@ -120,7 +120,7 @@ write-requires c κs =
     let v = c .before .before in
     let n = before-both v in
     let high = back-steps (v .before .before .before) in
-    rw (sourced n .source .ensures) (
+    rw (sourced n .parts .ensures) (
       record { follow = back-follows _ _ _ (start n .pre .from) refl (ends n); room = omega (arith, high, start n .pre .room) },
       omega (arith, high),
     )
@@ -185,7 +185,7 @@ pub find-spec : {M : Type 1} → statement M
 find-spec =
     tie.close
     (tie.spec
-    source-requires
+    parts-requires
     sub-p
     sub-q
     mul-start

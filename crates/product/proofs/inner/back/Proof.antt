@@ -6,16 +6,16 @@ use borrow.Author.Needs.{needs}
 use Rattle.product.proofs.inner.back.Statement.{statement}
 use Rattle.product.proofs.inner.back.Tie as tie
 
-source-requires : tie.Need-source-requires
-source-requires c κs = search needs
+parts-requires : tie.Need-parts-requires
+parts-requires c κs = search needs
 
 along-requires : tie.Need-along-requires
 along-requires c κs =
     let p = c .before .before .before .before .before .before .pre in
-    record { d = back; sound = p .0; near-is = refl; far-is = c .before .before .before .before .before .source .ensures; kept = p .1 }
+    record { d = back; sound = p .0; near-is = refl; far-is = c .before .before .before .before .before .parts .ensures; kept = p .1 }
 
 returns : tie.Need-returns
-returns c = c .along .ensures back refl (c .before .before .before .before .before .before .source .ensures)
+returns c = c .along .ensures back refl (c .before .before .before .before .before .before .parts .ensures)
 
 pub back-spec : {M : Type 1} → statement M
-back-spec = tie.close (tie.spec source-requires along-requires returns)
+back-spec = tie.close (tie.spec parts-requires along-requires returns)

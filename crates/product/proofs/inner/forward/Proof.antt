@@ -6,16 +6,16 @@ use borrow.Author.Needs.{needs}
 use Rattle.product.proofs.inner.forward.Statement.{statement}
 use Rattle.product.proofs.inner.forward.Tie as tie
 
-source-requires : tie.Need-source-requires
-source-requires c κs = search needs
+parts-requires : tie.Need-parts-requires
+parts-requires c κs = search needs
 
 along-requires : tie.Need-along-requires
 along-requires c κs =
     let p = c .before .before .before .before .before .before .pre in
-    record { d = forward; sound = p .0; near-is = c .before .before .before .before .before .source .ensures; far-is = refl; kept = p .1 }
+    record { d = forward; sound = p .0; near-is = c .before .before .before .before .before .parts .ensures; far-is = refl; kept = p .1 }
 
 returns : tie.Need-returns
-returns c = c .along .ensures forward (c .before .before .before .before .before .before .source .ensures) refl
+returns c = c .along .ensures forward (c .before .before .before .before .before .before .parts .ensures) refl
 
 pub forward-spec : {M : Type 1} → statement M
-forward-spec = tie.close (tie.spec source-requires along-requires returns)
+forward-spec = tie.close (tie.spec parts-requires along-requires returns)

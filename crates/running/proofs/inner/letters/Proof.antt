@@ -6,7 +6,7 @@ use lib.ListN.{length}
 use borrow.Author.Needs.{needs}
 use denote.Ref.{now}
 use Rattle.running.specs.Run.{tablesMachine}
-use Rattle.coder.proofs.Refusals.{letter-at}
+use Rattle.mealy.proofs.Letters.{letter-at}
 use Rattle.running.proofs.Running.{Reached, reached-none, reached-more, reached-end, reached-bytes}
 use Rattle.running.proofs.inner.letters.Statement.{statement}
 use Rattle.running.proofs.inner.letters.Tie as tie

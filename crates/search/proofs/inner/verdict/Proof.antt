@@ -1,5 +1,6 @@
 -- `verdict` meets its contract: a window where no conflicting edge is endless on both sides, a looped pair where one is.
-use Rattle.search.proofs.Verdicts.{output-keys, choose-asked, window-says, find-from, pair-says}
+use Rattle.chains.proofs.Entries.{output-keys}
+use Rattle.search.proofs.Verdicts.{choose-asked, window-says, find-from, pair-says}
 use Rattle.search.specs.Search.{order}
 use Rattle.search.proofs.Determined.{is-order}
 use borrow.Author.Needs.{needs}

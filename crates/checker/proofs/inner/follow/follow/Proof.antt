@@ -3,7 +3,7 @@ use Prim.Native.Nat.{_+_, _*_, _-_, _<_}
 use native.Mathlib.Omega.{arith}
 use denote.Ref.{now}
 use Rattle.mealy.specs.LoopedPair.{LoopedPair}
-use Rattle.mealy.proofs.SameSettings.{letter-below}
+use Rattle.mealy.proofs.Letters.{letter-at}
 use Rattle.coder.specs.Limits.{maxStates, maxInputs}
 use Rattle.coder.specs.Table.{machineOfCoder}
 use Rattle.coder.specs.declared.inner.tables.Coder.{Coder}
@@ -47,7 +47,7 @@ first-letter c =
     let a = c .before .before .before .before in
     let h = a .pre .tables in
     let k = a .args .place + c .before .before .loop .k in
-    let l = letter-below (a .pre .c .inputs) (now (a .args .letters)) (2 * k) (h .below) (omega (arith, a .pre .within)) in
+    let l = letter-at (a .pre .c .inputs) (now (a .args .letters)) (h .below) (2 * k) (omega (arith, a .pre .within)) in
     omega (arith, c .byte .ensures .0, h .sound .inputs-high)
 
 second-letter : (c : tie.After-byte2 Inv-loop μ-loop) → c .byte2 .result < maxInputs
@@ -55,7 +55,7 @@ second-letter c =
     let a = c .before .before .before .before .before in
     let h = a .pre .tables in
     let k = a .args .place + c .before .before .before .loop .k in
-    let l = letter-below (a .pre .c .inputs) (now (a .args .letters)) (2 * k + 1) (h .below) (omega (arith, a .pre .within)) in
+    let l = letter-at (a .pre .c .inputs) (now (a .args .letters)) (h .below) (2 * k + 1) (omega (arith, a .pre .within)) in
     omega (arith, c .byte2 .ensures .0, h .sound .inputs-high)
 
 entry-requires : tie.Need-entry-requires Inv-loop μ-loop

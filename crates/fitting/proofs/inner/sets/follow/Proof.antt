@@ -4,7 +4,7 @@ use lib.ListN.{length}
 use denote.Ref.{now}
 use Rattle.fitting.specs.Tables.{Leads}
 use Rattle.fitting.proofs.Steps.{Followed, followed-none, followed-more, followed-all, followed-empty}
-use Rattle.coder.proofs.Refusals.{letter-at}
+use Rattle.mealy.proofs.Letters.{letter-at}
 use borrow.Author.Needs.{needs}
 use native.Mathlib.Omega.{arith}
 use Rattle.fitting.proofs.inner.sets.follow.Statement.{statement}

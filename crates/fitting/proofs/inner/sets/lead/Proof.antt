@@ -5,7 +5,7 @@ use Prim.Native.Nat.{_≤_}
 use borrow.Author.Needs.{needs}
 use native.Mathlib.Omega.{arith}
 use Rattle.fitting.proofs.Backward.{leads-all, LeadsFrom, leads-none, leads-more, leads-empty}
-use Rattle.coder.proofs.Refusals.{letter-at}
+use Rattle.mealy.proofs.Letters.{letter-at}
 use Rattle.fitting.specs.Tables.{Leads}
 use Rattle.fitting.proofs.inner.sets.lead.Statement.{statement}
 use Rattle.fitting.proofs.inner.sets.lead.Tie as tie

@@ -5,7 +5,7 @@ use Prim.Native.Nat.{_+_, _-_}
 use lib.ListN.{length, drop}
 use lib.Seq.{length-take-le}
 use Rattle.mealy.proofs.ComesBack.{letters-take, letters-drop}
-use Rattle.coder.proofs.Refusals.{letter-at}
+use Rattle.mealy.proofs.Letters.{letter-at}
 use Rattle.fitting.proofs.Present.{rest, window-fits}
 use native.Mathlib.Omega.{arith}
 use borrow.Author.Needs.{needs}

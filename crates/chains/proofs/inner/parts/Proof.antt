@@ -2,10 +2,10 @@
 use Prim.Native.Nat.{_≤_, _-_}
 use borrow.Author.Needs.{needs}
 use native.Mathlib.Omega.{arith}
-use Rattle.fitting.specs.Tables.{placePart}
+use Rattle.chains.specs.Parts.{placePart}
 use Rattle.coder.proofs.Fill.{Filled, filled-none, filled-more, filled-all}
-use Rattle.fitting.proofs.inner.tables.parts.Statement.{statement}
-use Rattle.fitting.proofs.inner.tables.parts.Tie as tie
+use Rattle.chains.proofs.inner.parts.Statement.{statement}
+use Rattle.chains.proofs.inner.parts.Tie as tie
 
 abbrev Inv-loop : tie.InvT-loop
 Inv-loop letters a₀ p₀ a p = (p ≤ 256) × Filled 256 (placePart letters) p a

@@ -1,7 +1,7 @@
 -- `part` meets its contract.
 use borrow.Author.Needs.{needs}
-use Rattle.fitting.proofs.inner.tables.part.Statement.{statement}
-use Rattle.fitting.proofs.inner.tables.part.Tie as tie
+use Rattle.chains.proofs.inner.part.Statement.{statement}
+use Rattle.chains.proofs.inner.part.Tie as tie
 
 cast-result : tie.Need-cast-result
 cast-result c = search needs
