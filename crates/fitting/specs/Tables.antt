@@ -8,6 +8,7 @@ use lib.ListN.{length, getD}
 use Rattle.mealy.specs.Machine.{Letters}
 use Rattle.mealy.specs.Word.{Has, Holds}
 use Rattle.mealy.specs.Image.{Transitions, Fitting}
+use Rattle.coder.specs.Limits.{maxStates, maxOutputs}
 use Rattle.coder.specs.Table.{table, Sound}
 use Rattle.coder.specs.declared.inner.tables.Coder.{Coder}
 use Rattle.chains.specs.Parts.{placeParts}
@@ -29,29 +30,29 @@ pub record GivenBelow (keys values output : List ℕ) (inputs n o s x : ℕ) : T
 
 -- what making such a table asks
 pub record EntriesAsked (keys values output : List ℕ) (states : ℕ) : Type 0 where
-  pub states-high : states ≤ 16
-  pub keys-high : (p : ℕ) → getD keys p 0 < 16
+  pub states-high : states ≤ maxStates
+  pub keys-high : (p : ℕ) → getD keys p 0 < maxStates
   pub values-high : (p : ℕ) → getD values p 0 < 16
-  pub output-high : (p : ℕ) → getD output p 0 < 64
+  pub output-high : (p : ℕ) → getD output p 0 < maxOutputs
 
 -- and what it makes: for the key s and the output letter o the word at 16 o + s
 pub record ByOutput (keys values output : List ℕ) (states inputs : ℕ) (words : List ℕ) : Type 0 where
   pub size : length words ≡ 1024
   pub holds :
-      (o s : ℕ) → o < 64 → s < 16 →
+      (o s : ℕ) → o < maxOutputs → s < maxStates →
       Holds (GivenBelow keys values output inputs (16 * states) o s) (getD words (16 * o + s) 0)
 
 -- each place of such a table holds a word
 abbrev pub Words : List ℕ → Type 0
-Words words = (o s : ℕ) → o < 64 → s < 16 → getD words (16 * o + s) 0 < 65536
+Words words = (o s : ℕ) → o < maxOutputs → s < maxStates → getD words (16 * o + s) 0 < 65536
 
 -- the transitions in such a table
 abbrev pub Leads : List ℕ → Transitions
-Leads words o s t = (s < 16) × Has (getD words (16 * o + s) 0) t
+Leads words o s t = (s < maxStates) × Has (getD words (16 * o + s) 0) t
 
 -- those on the input letter x, by a table of letters and the table of next states
 pub record OnLetter (next letters : List ℕ) (x o s t : ℕ) : Type 0 where
-  pub state : s < 16
+  pub state : s < maxStates
   pub letter : Has (getD letters (16 * o + s) 0) x
   pub to : getD next (16 * s + x) 0 ≡ t
 
@@ -65,19 +66,19 @@ FittingIn next successors letters = Fitting (Leads successors) (OnLetter next le
 
 -- what the functions on these tables ask of them: words, and predecessors that are the successors turned round
 pub record TablesAsked (next successors predecessors letters : List ℕ) : Type 0 where
-  pub next-high : (p : ℕ) → getD next p 0 < 16
+  pub next-high : (p : ℕ) → getD next p 0 < maxStates
   pub successors-words : Words successors
   pub predecessors-words : Words predecessors
   pub letters-words : Words letters
-  pub turned : (o s t : ℕ) → o < 64 → Leads successors o s t → Leads predecessors o t s
-  pub turned′ : (o s t : ℕ) → o < 64 → Leads predecessors o t s → Leads successors o s t
+  pub turned : (o s t : ℕ) → o < maxOutputs → Leads successors o s t → Leads predecessors o t s
+  pub turned′ : (o s t : ℕ) → o < maxOutputs → Leads predecessors o t s → Leads successors o s t
 
 pub record PresentAsked (next predecessors letters : List ℕ) (o : ℕ) (after : List ℕ) : Type 0 where
-  pub next-high : (p : ℕ) → getD next p 0 < 16
+  pub next-high : (p : ℕ) → getD next p 0 < maxStates
   pub predecessors-words : Words predecessors
   pub letters-words : Words letters
-  pub letter : o < 64
-  pub after-letters : Letters 64 after
+  pub letter : o < maxOutputs
+  pub after-letters : Letters maxOutputs after
 
 -- the tables of the coder c by output letter
 pub record SetsOf (c : Coder) (successors predecessors letters : List ℕ) : Type 0 where

@@ -21,6 +21,7 @@ pub mod ComesBack
 pub mod Places
 pub mod Pigeonhole
 pub mod SameSettings
+pub mod PairBytes
 pub mod Words
 pub mod Members
 pub mod Images

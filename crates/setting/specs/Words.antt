@@ -5,6 +5,7 @@ use lib.ListN.{length, getD}
 use mathlib.Core.Path.{_≡_}
 use Rattle.mealy.specs.Word.{Has, Holds}
 use Rattle.mealy.specs.Setting.{Setting, anyState}
+use Rattle.coder.specs.Limits.{maxInputs}
 use Rattle.coder.specs.Table.{machineOfCoder}
 use Rattle.coder.specs.declared.inner.tables.Coder.{Coder}
 
@@ -14,9 +15,9 @@ settingOfCoder c = anyState (machineOfCoder c)
 
 -- word i has bit j exactly where the letters i and j conflict
 pub record ConflictsOf (C : ℕ → ℕ → Type 0) (words : List ℕ) : Type 0 where
-  pub size : length words ≡ 16
-  pub conflict : (i j : ℕ) → i < 16 → j < 16 → C i j → Has (getD words i 0) j
-  pub conflict′ : (i j : ℕ) → i < 16 → j < 16 → Has (getD words i 0) j → C i j
+  pub size : length words ≡ maxInputs
+  pub conflict : (i j : ℕ) → i < maxInputs → j < maxInputs → C i j → Has (getD words i 0) j
+  pub conflict′ : (i j : ℕ) → i < maxInputs → j < maxInputs → Has (getD words i 0) j → C i j
 
 -- the words say the coder's setting
 pub record WordsOf (c : Coder) (starts : ℕ) (conflicts : List ℕ) : Type 0 where

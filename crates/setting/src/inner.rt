@@ -31,7 +31,7 @@ pub fn different_letters() -> [u16; 16]
 {
     let mut words = [0u16; 16];
     let mut i = 0;
-    while i < 16 {
+    while i < Coder::INPUTS {
         words[i] = 65535 - (1u16 << i);
         i += 1;
     }

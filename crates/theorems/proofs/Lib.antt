@@ -2,3 +2,4 @@
 pub mod RoundTrip
 pub mod Tests
 pub mod Starred
+pub mod SearchChecked

@@ -37,7 +37,7 @@ use Rattle.theorems.specs.RoundTrip.{RoundTrip}
 
 -- ---- letters
 
-letters-test : (n : ℕ) (xs : List ℕ) → Letters n xs → lettersBelow n xs ≡ true
+pub letters-test : (n : ℕ) (xs : List ℕ) → Letters n xs → lettersBelow n xs ≡ true
 letters-test n [] l = refl
 letters-test n (x ∷ xs) l = rw (lt-ltb x n (l .0)) (letters-test n xs (l .1))
 

@@ -5,6 +5,7 @@ ghost use lib.ListN.{getD};
 ghost use Rattle.mealy.specs.Machine.{Letters};
 ghost use Rattle.mealy.specs.Word.{Has, Holds};
 ghost use Rattle.mealy.specs.Image.{Image, Following, Leading};
+ghost use Rattle.coder.specs.Limits.{maxStates, maxInputs, maxOutputs};
 ghost use Rattle.fitting.specs.Tables.{Words, Leads, Between};
 use coder::inner::bytes::byte;
 use coder::inner::bytes::number;
@@ -13,7 +14,7 @@ use setting::inner::has;
 
 // The union of the words of output letter o over a set of states: with the successors, the states that follow them.
 pub fn image(words: &[u16; 1024], o: usize, set: u16) -> u16
-    requires { ⌜ Words (now words) × (o < 64) ⌝ }
+    requires { ⌜ Words (now words) × (o < maxOutputs) ⌝ }
     ensures { λ r. ⌜ Holds (Image (Leads (now (words .entry)) o) (Has set)) r ⌝ }
 {
     let mut to = 0u16;
@@ -28,7 +29,7 @@ pub fn image(words: &[u16; 1024], o: usize, set: u16) -> u16
 
 // The states after all letters of w.
 pub fn follow(successors: &[u16; 1024], w: &[u8], set: u16) -> u16
-    requires { ⌜ Words (now successors) × Letters 64 (now w) ⌝ }
+    requires { ⌜ Words (now successors) × Letters maxOutputs (now w) ⌝ }
     ensures { λ r. ⌜ Holds (Following (Leads (now (successors .entry))) (Has set) (now (w .entry))) r ⌝ }
 {
     let mut to = set;
@@ -45,8 +46,8 @@ pub fn follow(successors: &[u16; 1024], w: &[u8], set: u16) -> u16
 
 // The states from which all letters of w can be produced.
 pub fn lead(predecessors: &[u16; 1024], w: &[u8]) -> u16
-    requires { ⌜ Words (now predecessors) × Letters 64 (now w) ⌝ }
-    ensures { λ r. ⌜ Holds (Leading (Leads (now (predecessors .entry))) (λ s. s < 16) (now (w .entry))) r ⌝ }
+    requires { ⌜ Words (now predecessors) × Letters maxOutputs (now w) ⌝ }
+    ensures { λ r. ⌜ Holds (Leading (Leads (now (predecessors .entry))) (λ s. s < maxStates) (now (w .entry))) r ⌝ }
 {
     let mut from = 65535u16;
     let mut k = w.len();
@@ -62,7 +63,7 @@ pub fn lead(predecessors: &[u16; 1024], w: &[u8]) -> u16
 
 // The letter x where the entry of state s on it leads to a state of the set `from`.
 fn on_letter(next: &[u8; 256], s: usize, x: usize, from: u16) -> u16
-    requires { ⌜ (s < 16) × (x < 16) × ((k : ℕ) → getD (now next) k 0 < 16) ⌝ }
+    requires { ⌜ (s < maxStates) × (x < maxInputs) × ((k : ℕ) → getD (now next) k 0 < maxStates) ⌝ }
     ensures { λ r. ⌜ Holds (λ y. (y ≡ x) × Has from (getD (now (next .entry)) (16 * s + x) 0)) r ⌝ }
 {
     if has(from, number(next[Coder::INPUTS * s + x])) {
@@ -74,7 +75,7 @@ fn on_letter(next: &[u8; 256], s: usize, x: usize, from: u16) -> u16
 
 // Of a set of letters those on which the entries of state s lead to states of the set `from`.
 fn of_state(next: &[u8; 256], s: usize, letters: u16, from: u16) -> u16
-    requires { ⌜ (s < 16) × ((k : ℕ) → getD (now next) k 0 < 16) ⌝ }
+    requires { ⌜ (s < maxStates) × ((k : ℕ) → getD (now next) k 0 < maxStates) ⌝ }
     ensures { λ r. ⌜ Holds (λ x. Has letters x × Has from (getD (now (next .entry)) (16 * s + x) 0)) r ⌝ }
 {
     let mut fit = 0u16;
@@ -95,7 +96,7 @@ pub fn between<'a>(
     set: u16,
     from: u16,
 ) -> u16
-    requires { ⌜ Words (now letters) × (o < 64) × ((k : ℕ) → getD (now next) k 0 < 16) ⌝ }
+    requires { ⌜ Words (now letters) × (o < maxOutputs) × ((k : ℕ) → getD (now next) k 0 < maxStates) ⌝ }
     ensures { λ r. ⌜ Holds (Image (Between (now (next .entry)) (now (letters .entry)) o from) (Has set)) r ⌝ }
 {
     let mut fit = 0u16;

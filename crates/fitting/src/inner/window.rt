@@ -3,6 +3,7 @@ ghost use Prim.Native.Nat.{_<_};
 ghost use lib.ListN.{length};
 ghost use Rattle.mealy.specs.Machine.{Letters};
 ghost use Rattle.mealy.specs.Word.{Has, Holds};
+ghost use Rattle.coder.specs.Limits.{maxOutputs};
 ghost use Rattle.fitting.specs.Tables.{TablesAsked, PresentAsked, PresentGiven, FittingIn, Tables, DecodeGiven};
 use crate::Answer;
 use crate::inner::answer::answer_of;
@@ -40,7 +41,7 @@ pub fn fitting<'a>(
     window: &[u8],
     b: usize,
 ) -> u16
-    requires { ⌜ TablesAsked (now next) (now successors) (now predecessors) (now letters) × Letters 64 (now window) × (b < length (now window)) ⌝ }
+    requires { ⌜ TablesAsked (now next) (now successors) (now predecessors) (now letters) × Letters maxOutputs (now window) × (b < length (now window)) ⌝ }
     ensures { λ r. ⌜ Holds (FittingIn (now (next .entry)) (now (successors .entry)) (now (letters .entry)) (Has starts) (now (window .entry)) b) r ⌝ }
 {
     let set = follow(successors, &window[..b], starts);
@@ -59,7 +60,7 @@ pub fn decode<'a>(
     window: &[u8],
     b: usize,
 ) -> Answer
-    requires { ⌜ Tables (now next) (now successors) (now predecessors) (now letters) starts × Letters 64 (now window) × (b < length (now window)) ⌝ }
+    requires { ⌜ Tables (now next) (now successors) (now predecessors) (now letters) starts × Letters maxOutputs (now window) × (b < length (now window)) ⌝ }
     ensures { λ r. ⌜ DecodeGiven (now (next .entry)) (now (successors .entry)) (now (predecessors .entry)) (now (letters .entry)) starts (now (window .entry)) b r ⌝ }
 {
     answer_of(fitting(next, successors, predecessors, letters, starts, window, b))

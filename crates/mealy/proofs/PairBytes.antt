@@ -1,0 +1,86 @@
+-- The bytes of a looped pair: whether it is valid hangs on those of its letters alone, and they are input letters.
+use mathlib.Core.Path.{_≡_, refl, ap₂}
+use mathlib.Core.List.{List, [], _∷_}
+use Prim.Native.Nat.{ℕ, zero, suc, _+_, _*_, _/_, _%_, _≤_, _<_}
+use native.Mathlib.Decide.{ℕ-discrete}
+use native.Mathlib.Omega.{arith}
+use lib.ListN.{length, getD, take}
+use lib.Seq.{getD-take, length-take-le}
+use Rattle.mealy.specs.Machine.{Letters}
+use Rattle.mealy.specs.Setting.{Setting}
+use Rattle.mealy.specs.LoopedPair.{LoopedPair, Run, first, second, offset, letterAt, lettersFrom, mark, unlooped, letters, runInputs, startOf, Valid}
+use Rattle.mealy.proofs.SameSettings.{pair-letter-below}
+
+-- the pair with other bytes
+abbrev pub withBytes : LoopedPair → List ℕ → LoopedPair
+withBytes p bytes =
+    record {
+      s = p .s;
+      t = p .t;
+      back-loop = p .back-loop;
+      lead-in = p .lead-in;
+      lead-out = p .lead-out;
+      forward-loop = p .forward-loop;
+      bytes = bytes;
+    }
+
+offset-low : (r : Run) → offset r ≤ 1
+offset-low first = omega arith
+offset-low second = omega arith
+
+module _ (p : LoopedPair) (bytes : List ℕ) (same : (k : ℕ) → k < 2 * letters p → getD bytes k 0 ≡ getD (p .bytes) k 0) where
+  abbrev q : LoopedPair
+  q = withBytes p bytes
+
+  start-same : (r : Run) → startOf q r ≡ startOf p r
+  start-same first = refl
+  start-same second = refl
+
+  letter-same : (r : Run) (place : ℕ) → place < letters p → letterAt q r place ≡ letterAt p r place
+  letter-same r place l = same (2 * place + offset r) (omega (arith, offset-low r))
+
+  letters-same : (r : Run) (place n : ℕ) → place + n ≤ letters p → lettersFrom q r place n ≡ lettersFrom p r place n
+  letters-same r place zero l = refl
+  letters-same r place (suc n) l = ap₂ _∷_ (letter-same r place (omega arith)) (letters-same r (suc place) n (omega arith))
+
+  pub valid-bytes : (S : Setting) → 2 * letters p ≤ length bytes → Valid S p → Valid S q
+  valid-bytes S held v =
+      let all : (r : Run) → runInputs q r ≡ runInputs p r = λ r. letters-same r 0 (letters p) (omega arith) in
+      record {
+        held = held;
+        start = λ r. rw (start-same r) (v .start r);
+        below = λ r. rw (all r) (v .below r);
+        back-letter = v .back-letter;
+        forward-letter = v .forward-letter;
+        outputs = rw (all first, all second) (v .outputs);
+        conflict = rw (letter-same first (mark p) (omega arith), letter-same second (mark p) (omega arith)) (v .conflict);
+        back-closed = λ r. rw (start-same r, letters-same r 0 (p .back-loop) (omega arith)) (v .back-closed r);
+        forward-closed = λ r. rw (start-same r, all r, letters-same r 0 (unlooped p) (omega arith)) (v .forward-closed r);
+      }
+
+-- the bytes of a valid pair's letters
+module _ (S : Setting) (p : LoopedPair) (v : Valid S p) where
+  byte-low : (k : ℕ) → k < 2 * letters p → getD (p .bytes) k 0 < S .M .inputs
+  byte-low k l =
+      let n = S .M .inputs in
+      let at : (r : Run) → letterAt p r (k / 2) < n =
+      λ r. pair-letter-below n p r (letters p) 0 (k / 2) (k / 2) (v .below r) (omega arith) (omega arith) in
+      elim (ℕ-discrete (k % 2) 0) [
+        | yes e ↦ (let z : 2 * (k / 2) + 0 ≡ k = omega arith in rw z at (at first))
+        | no e ↦ (let z : 2 * (k / 2) + 1 ≡ k = omega arith in rw z at (at second))
+      ]
+
+  pub valid-letters : Letters (S .M .inputs) (take (2 * letters p) (p .bytes))
+  valid-letters = go (2 * letters p) (p .bytes) (v .held) byte-low
+    where
+      go : (n : ℕ) (xs : List ℕ) → n ≤ length xs → ((k : ℕ) → k < n → getD xs k 0 < S .M .inputs) → Letters (S .M .inputs) (take n xs)
+      go zero xs l h = tt
+      go (suc n) [] l h = tt
+      go (suc n) (x ∷ xs) l h = (h 0 (omega arith), go n xs (omega arith) (λ k m. h (suc k) (omega arith)))
+
+  -- with those bytes alone it is as valid
+  pub valid-cut : Valid S (withBytes p (take (2 * letters p) (p .bytes)))
+  valid-cut =
+      let n = 2 * letters p in
+      valid-bytes p (take n (p .bytes)) (λ k l. getD-take n (p .bytes) k 0 l) S
+      (omega (arith, length-take-le n (p .bytes) (v .held))) v
