@@ -208,16 +208,16 @@ module _ {next start entries : List ℕ} {outputs : ℕ} {v : List ℕ} {left pr
 
   -- what the call for the letter o is asked
   pub filling-asked :
-      {table₀ to : List ℕ} → PartAsked next start entries outputs v left present table₀ → o < outputs →
-      ((c : Coder) → RowsOf c start entries → to ≡ advance c next v o (eqb present 1)) →
+      {table₀ to : List ℕ} (x : ℕ) (here : Bool) → PartAsked next start entries outputs v left present table₀ → o < outputs →
+      ((c : Coder) → RowsOf c start entries → to ≡ advance c next v x here) →
       PartAsked next start entries outputs to (left - 1) after (take (o * size + size - o * size) (drop (o * size) table))
-  filling-asked a l advanced =
+  filling-asked x here a l advanced =
       record {
         coder = a .coder;
         rows = a .rows;
         next-is = a .next-is;
         words =
-            let e = rw (a .next-is) at (advanced (a .coder) (a .rows)) in after-words (a .rows .sound) v o (eqb present 1) (a .words) e;
+            let e = rw (a .next-is) at (advanced (a .coder) (a .rows)) in after-words (a .rows .sound) v x here (a .words) e;
         outputs-low = a .outputs-low;
         outputs-high = a .outputs-high;
         more = omega (arith, f .more);
@@ -282,9 +282,9 @@ start-words : (starts : ℕ) → EachWord (startSets starts)
 start-words starts s l = rw (getD-table 16 (startSet starts) s l) (omega arith)
 
 pub fill-asked :
-    {next start entries table v : List ℕ} {outputs n b : ℕ} (starts : ℕ) → FillAsked next start entries outputs n b table →
-    v ≡ startSets starts → PartAsked next start entries outputs v n (b + 1) table
-fill-asked starts a e =
+    {next start entries table v : List ℕ} {outputs n b p : ℕ} (starts : ℕ) → FillAsked next start entries outputs n b table →
+    v ≡ startSets starts → p ≤ n → PartAsked next start entries outputs v n p table
+fill-asked starts a e l =
     record {
       coder = a .coder;
       rows = a .rows;
@@ -293,7 +293,7 @@ fill-asked starts a e =
       outputs-low = a .outputs-low;
       outputs-high = a .outputs-high;
       more = omega (arith, a .inside);
-      inside = omega (arith, a .inside);
+      inside = l;
       size = a .size;
     }
 

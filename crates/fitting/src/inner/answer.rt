@@ -20,7 +20,8 @@ pub fn answer_of(u: u16) -> Answer
     if u != 1u16 << greatest {
         return Answer::Several;
     }
-    Answer::Letter(greatest as u8)
+    let letter = greatest as u8;
+    Answer::Letter(letter)
 }
 
 // The answer's byte.

@@ -1,7 +1,8 @@
 -- `places::decode_places` meets its contract: before each turn the first k places are decoded.
 use lib.ListN.{take, drop, length-drop, length}
 use lib.Seq.{length-take-le}
-use Prim.Native.Nat.{_+_, _≤_, _-_}
+use mathlib.Core.List.{List}
+use Prim.Native.Nat.{ℕ, _+_, _≤_, _<_, _-_}
 use mathlib.Core.Path.{_≡_, refl}
 use borrow.Author.Needs.{needs}
 use native.Mathlib.Omega.{arith}
@@ -38,19 +39,21 @@ part-decode-start c = search needs
 part-decode-end : tie.Need-part-decode-end Inv-loop μ-loop
 part-decode-end c = search needs
 
+-- a part of m letters that lies in w has its present letter
+part-long : {b : ℕ} (m : ℕ) (w : List ℕ) (k : ℕ) → k + m ≤ length w → b < m → b < length (take m (drop k w))
+part-long m w k l h =
+    let long : m ≤ length (drop k w) = simp length-drop (omega arith) in
+    rw (length-take-le m (drop k w) long) h
+
 decode-requires : tie.Need-decode-requires Inv-loop μ-loop
 decode-requires c κs =
     let p = c .before .before .before .before .before in
-    let a = p .args in
-    let i = c .before .before .loop in
-    let w = a .received .now in
-    let e : i .k + a .n - i .k ≡ a .n = omega arith in
     let q = p .pre .windows in
     let t = c .before .loop-test .taken in
-    let long : a .n ≤ length (drop (i .k) w) = simp length-drop (omega arith) in (
+    let h = p .pre .present in (
       p .pre .tables,
       search (letters-take, letters-drop, p .pre .below),
-      rw (e, length-take-le (a .n) (drop (i .k) w) long) (p .pre .present),
+      search (part-long, needs),
     )
 
 answer-byte-requires : tie.Need-answer-byte-requires Inv-loop μ-loop

@@ -98,7 +98,7 @@ part-fill-part-requires t c κs =
     let p = c .before .before .before .before .before .before .before .before .before .pre in
     let i = c .before .before .before .before .before .loop .inv in (
       omega (arith, i .more, p .0),
-      filling-asked i (p .1) (c .before .before .before .before .loop-test .taken) (c .before .before .advance .ensures),
+      filling-asked i _ _ (p .1) (c .before .before .before .before .loop-test .taken) (c .before .before .advance .ensures),
     )
 
 part-add-o : (t : ℕ) → fill-part-lts.Need-add-o (claims t) (fill-part-at t) fill-part.Post Inv-loop μ-loop

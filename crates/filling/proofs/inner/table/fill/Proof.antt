@@ -1,4 +1,5 @@
 -- `fill` meets its contract.
+use native.Mathlib.Omega.{arith}
 use Rattle.filling.proofs.Filling.{fill-asked, table-filled}
 use borrow.Author.Needs.{needs}
 use borrow.Author.Needs.{needs}
@@ -12,7 +13,7 @@ add-fill-part : tie.Need-add-fill-part
 add-fill-part c = search needs
 
 fill-part-requires : tie.Need-fill-part-requires
-fill-part-requires c κs = fill-asked _ (c .before .before .before .before .pre) (c .before .before .start-sets .ensures)
+fill-part-requires c κs = let p = c .before .before .before .before .pre in fill-asked _ p (c .before .before .start-sets .ensures) (omega (arith, p .inside))
 
 same-length : tie.Need-same-length
 same-length c = search needs

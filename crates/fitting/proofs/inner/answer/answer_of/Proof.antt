@@ -23,11 +23,11 @@ shl-if2 c = search needs
 returns-2 : tie.Need-returns-2
 returns-2 c = several-letters _ (c .before .if1 .left) (c .if2 .taken)
 
-cast-t7 : tie.Need-cast-t7
-cast-t7 c = search needs
+cast-letter : tie.Need-cast-letter
+cast-letter c = search needs
 
 returns-3 : tie.Need-returns-3
 returns-3 c = one-letter _ (c .before .if1 .left) (c .if2 .left)
 
 pub answer-of-spec : {M : Type 1} → statement M
-answer-of-spec = tie.close (tie.spec returns sub-greatest cast-if2 shl-if2 returns-2 cast-t7 returns-3)
+answer-of-spec = tie.close (tie.spec returns sub-greatest cast-if2 shl-if2 returns-2 cast-letter returns-3)

@@ -26,7 +26,7 @@ byte-requires : tie.Need-byte-requires Inv-loop μ-loop
 byte-requires c κs = search needs
 
 image-requires : tie.Need-image-requires Inv-loop μ-loop
-image-requires c κs = let p = c .before .before .before .before .before in let e = c .byte .ensures .0 in (p .pre .0, rw e (letter-at 64 (now (p .args .w)) (p .pre .1) _ (c .before .before .loop-test .taken)))
+image-requires c κs = let p = c .before .before .before .before .before in let e = c .byte .ensures .0 in (p .pre .0, rw e (letter-at 64 (now (p .args .w)) (p .pre .1) _ (omega arith)))
 
 add-k : tie.Need-add-k Inv-loop μ-loop
 add-k c = search needs

@@ -43,7 +43,7 @@ present-requires c κs =
       next-high = p .pre .0 .next-high;
       predecessors-words = p .pre .0 .predecessors-words;
       letters-words = p .pre .0 .letters-words;
-      letter = rw e (letter-at 64 w (p .pre .1) _ (p .pre .2));
+      letter = rw e (letter-at 64 w (p .pre .1) _ (omega (arith, p .pre .2)));
       after-letters = letters-take 64 (length w - k) (drop k w) (letters-drop 64 k w (p .pre .1));
     }
 
