@@ -4,4 +4,3 @@ pub mod Following
 pub mod PartsJudged
 pub mod Checking
 pub mod Determined
-pub mod Examples

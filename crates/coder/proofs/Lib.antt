@@ -6,4 +6,3 @@ pub mod Inverse
 pub mod Fill
 pub mod Tables
 pub mod Determined
-pub mod Examples

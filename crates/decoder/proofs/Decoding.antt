@@ -1,18 +1,14 @@
 -- What the decoder's core gives on the tables of an accepted file: right answers and right bytes.
-use mathlib.Core.Path.{_≡_, refl, ap, subst, _∙_}
+use mathlib.Core.Path.{_≡_, refl, ap, subst}
 use mathlib.Core.List.{List, _++_}
 use Prim.Native.Nat.{ℕ, _-_, _^_, _≤_, _<_}
-use native.Mathlib.Omega.{arith}
-use lib.ListN.{length, getD, take, drop, length-append, length-drop, List·getD-append}
-use lib.Seq.{drop-at}
+use lib.ListN.{length, take, drop}
 use Rattle.mealy.specs.Setting.{anyState}
 use Rattle.mealy.specs.Word.{Holds}
 use Rattle.coder.specs.File.{fileRefusal, outputsOf, machineOf, settingOf}
-use Rattle.coder.specs.Limits.{maxStates}
 use Rattle.coder.specs.Table.{coderOf, Sound}
 use Rattle.coder.specs.declared.inner.tables.Coder.{Coder}
 use Rattle.coder.proofs.Accepted.{accepted}
-use Rattle.coder.proofs.Tables.{next-high, output-high}
 use Rattle.setting.specs.Words.{settingOfCoder}
 use Rattle.setting.proofs.Numbers.{holds-all}
 use Rattle.setting.proofs.Same.{coder-sound, coder-machine}
@@ -32,7 +28,7 @@ use Rattle.decoder.specs.Written.{Written}
 use Rattle.decoder.specs.Refusal.{tableSize}
 use Rattle.decoder.specs.Places.{places, ByteAt, PlacesDecoded}
 use Rattle.decoder.specs.Table.{EntryOf}
-use Rattle.decoder.proofs.Writing.{written-map}
+use Rattle.decoder.proofs.Writing.{written-map, written-bytes}
 
 -- c is the coder of the accepted file f
 pub record CoderOf (c : Coder) (f : List ℕ) : Type 0 where
@@ -55,9 +51,6 @@ module _ {c : Coder} {f : List ℕ} (h : CoderOf c f) where
       {start entries : List ℕ} →
       Rowed (c .output) (c .states) (c .inputs) (record { start = start; entries = entries }) → RowsOf c start entries
   rows-of k = record { sound = sound-of; rowed = k }
-
-  pub next-of : (p : ℕ) → getD (c .next) p 0 < maxStates
-  next-of p = omega (arith, next-high c sound-of p, sound-of .states-high)
 
   -- its setting is the file's
   pub byte-of : (w : List ℕ) (b : ℕ) {v : ℕ} → RightByte (settingOfCoder c) w b v → RightByte (settingOf f) w b v
@@ -98,14 +91,9 @@ module _ {c : Coder} {f : List ℕ} (h : CoderOf c f) where
   table-right {o} {n} {count} {before} {ys} w eo en ec room g =
       let long : length ys ≡ count = rw (eo, en, ← ec) at (g .size) in
       rw (← ec)
-      (record {
-        size = length-append ys (drop count before) ∙ simp length-drop (omega arith);
-        is = λ k l.
-            let there : k < o ^ n = rw (eo, en, ← ec) l in
-            rw (List·getD-append ys (drop count before) 0 k (omega arith), ← eo, ← en)
-            (byte-of (windowAt o n k) (w .before) (g .is k there));
-        rest = drop-at ys (drop count before) count long;
-      })
+      (written-bytes ys long room (λ k l.
+      let there : k < o ^ n = rw (eo, en, ← ec) l in
+      rw (← eo, ← en) (byte-of (windowAt o n k) (w .before) (g .is k there))))
 
 -- the start states of a file's coder
 abbrev pub startsOf : List ℕ → ℕ

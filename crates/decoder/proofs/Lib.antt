@@ -6,4 +6,3 @@ pub mod Counting
 pub mod Decoding
 pub mod Determined
 pub mod ComeBack
-pub mod Examples

@@ -34,17 +34,22 @@ pub written-map :
     Written Q m before after → Written R m before after
 written-map h w = record { size = w .size; is = λ k l. h k _ l (w .is k l); rest = w .rest }
 
--- the bytes of g in front, the old bytes after them
+-- the bytes of a list in front, the old bytes after them
+pub written-bytes :
+    {Q : ℕ → ℕ → Type 0} {n : ℕ} {before : List ℕ} (bytes : List ℕ) → length bytes ≡ n → n ≤ length before →
+    ((k : ℕ) → k < n → Q k (getD bytes k 0)) → Written Q n before (bytes ++ drop n before)
+written-bytes {Q} {n} {before} bytes long l h =
+    record {
+      size = length-append bytes (drop n before) ∙ simp length-drop (omega arith);
+      is = λ k p. rw (List·getD-append bytes (drop n before) 0 k (omega arith)) (h k p);
+      rest = drop-at bytes (drop n before) n long;
+    }
+
+-- and those of a function
 pub written-front :
     {Q : ℕ → ℕ → Type 0} {n : ℕ} {before : List ℕ} (g : ℕ → ℕ) → n ≤ length before →
     ((k : ℕ) → k < n → Q k (g k)) → Written Q n before (table n g ++ drop n before)
-written-front {Q} {n} {before} g l h =
-    let long = length-table n g in
-    record {
-      size = length-append (table n g) (drop n before) ∙ simp length-drop (omega arith);
-      is = λ k p. rw (List·getD-append (table n g) (drop n before) 0 k (omega arith), getD-table n g k p) (h k p);
-      rest = drop-at (table n g) (drop n before) n long;
-    }
+written-front {Q} {n} g l h = written-bytes (table n g) (length-table n g) l (λ k p. rw (getD-table n g k p) (h k p))
 
 -- two buffers that were written alike are equal
 pub written-unique :

@@ -1,22 +1,18 @@
 -- One window: the pass over its letters, and that its answer is right.
-use mathlib.Core.Path.{_≡_, refl}
+use mathlib.Core.Path.{_≡_}
 use mathlib.Core.List.{List, [], _∷_}
 use mathlib.Core.Logic.{⊎-elim, inl, inr}
-use Prim.Native.Nat.{ℕ, zero, suc, pred, _+_, _-_, _<_, _≤_}
+use Prim.Native.Nat.{ℕ, zero, suc, pred, _<_, _≤_}
 use native.Mathlib.Nat.{eq-or-lt-of-le, le-of-suc-le-suc}
-use native.Mathlib.Numerals.{add-one}
 use native.Mathlib.Omega.{arith}
-use lib.Bits.{bitOr}
-use lib.ListN.{length, getD, take, drop}
+use lib.ListN.{length, getD}
 use lib.Dec.{eqb}
-use lib.Seq.{take-all}
 use Rattle.mealy.specs.Word.{Holds}
 use Rattle.mealy.proofs.Words.{holds-map, holds-none, holds-union}
 use Rattle.coder.specs.Table.{machineOfCoder, Sound}
 use Rattle.coder.specs.declared.inner.tables.Coder.{Coder}
 use Rattle.setting.specs.Words.{settingOfCoder}
-use Rattle.fitting.specs.Answer.{Right, answerOf}
-use Rattle.fitting.specs.declared.Answer.{Answer}
+use Rattle.fitting.specs.Answer.{Right}
 use Rattle.fitting.proofs.Answers.{holds-right}
 use Rattle.filling.specs.Runs.{Sets, SetAfter, From}
 use Rattle.filling.specs.Sets.{advance, startSets}
@@ -24,45 +20,6 @@ use Rattle.filling.specs.Window.{pass, unionOf, decoded}
 use Rattle.filling.proofs.Sets.{advance-holds}
 use Rattle.filling.proofs.Runs.{WithinStates, from-after, after-from, from-all, all-from, startingSets, from-fits, fits-from}
 use Rattle.filling.proofs.Filling.{start-holds}
-
--- one state more
-pub union-more : {u r : ℕ} (n : ℕ) (v : List ℕ) → u ≡ unionOf n v → r ≡ bitOr u (getD v n 0) → r ≡ unionOf (n + 1) v
-unfolding unionOf
-union-more n v e q = rw (add-one, ← e) q
-
--- all states
-pub union-all :
-    {m n u : ℕ} {r : Answer} (v : List ℕ) → u ≡ unionOf m v → m ≡ n → r ≡ answerOf u → r ≡ answerOf (unionOf n v)
-union-all v e q a = rw (← q, ← e) a
-
--- no letter is left, or one is read
-pub rest : (w : List ℕ) → take (length w - 1) (drop 1 w) ≡ drop 1 w
-rest [] = refl
-rest (o ∷ w) = take-all (suc (length w) - 1) w (omega arith)
-
-module _ (c : Coder) (next v : List ℕ) (p : ℕ) where
-  pub passed-none : (w : List ℕ) → length w ≡ 0 → v ≡ pass c next v w p
-  unfolding pass
-  passed-none [] e = refl
-  passed-none (o ∷ w) e = absurd (omega arith)
-
-  passed-first :
-      (w : List ℕ) → (length w ≡ 0 → ⊥) →
-      pass c next (advance c next v (getD w 0 0) (eqb p 1)) (drop 1 w) (pred p) ≡ pass c next v w p
-  unfolding pass
-  passed-first [] n = absurd (n refl)
-  passed-first (o ∷ w) n = refl
-
-  pub passed-more :
-      (w : List ℕ) {o p′ : ℕ} {v′ : List ℕ} → (length w ≡ 0 → ⊥) → o ≡ getD w 0 0 → v′ ≡ advance c next v o (eqb p 1) →
-      p′ ≡ pred p → pass c next v′ (take (length w - 1) (drop 1 w)) p′ ≡ pass c next v w p
-  passed-more w n eo ev ep = rw (rest w, ep, ev, eo) (passed-first w n)
-
-pub decoded-is :
-    (c : Coder) (starts : ℕ) (w : List ℕ) (b : ℕ) {next v : List ℕ} {states p : ℕ} → v ≡ startSets starts → next ≡ c .next →
-    states ≡ c .states → p ≡ b + 1 → answerOf (unionOf states (pass c next v w p)) ≡ decoded c starts w b
-unfolding decoded
-decoded-is c starts w b ev en es ep = rw (ev, en, es, ep, add-one)
 
 -- the union of the first n words holds the union of their sets
 holds-union-of :

@@ -1,5 +1,5 @@
--- A host reads back what was written: field k of a result is bytes 8 k to 8 k + 7, and these, the highest digit first, are the number.
-use mathlib.Core.Path.{_≡_, refl}
+-- A host reads back what was written: field k of a result is the k-th number, where that is one that 8 bytes hold.
+use mathlib.Core.Path.{_≡_, refl, ap, _∙_}
 use mathlib.Core.List.{List, [], _∷_, _++_}
 use Prim.Native.Nat.{ℕ, zero, suc, _*_, _<_}
 use native.Mathlib.Nat.{le-of-suc-le-suc}
@@ -7,10 +7,7 @@ use native.Mathlib.Omega.{arith}
 use lib.ListN.{length, getD, take, drop}
 use Rattle.coder.specs.BigEndian.{bigEndian, fromBigEndian}
 use Rattle.coder.proofs.BigEndian.{number-back}
-use Rattle.layout.specs.Layout.{field, fieldsOf, withFields}
-
-pub field-reads : (x : ℕ) → x < 18446744073709551616 → fromBigEndian (field x) ≡ x
-field-reads x l = number-back 8 x l
+use Rattle.layout.specs.Layout.{field, fieldsOf, withFields, fieldAt}
 
 place : (ns rest : List ℕ) (k : ℕ) → k < length ns → take 8 (drop (8 * k) (fieldsOf ns ++ rest)) ≡ field (getD ns k 0)
 unfolding fieldsOf bigEndian
@@ -20,6 +17,7 @@ place (n ∷ ns) rest (suc k) l =
     let e : 8 * suc k ≡ suc (suc (suc (suc (suc (suc (suc (suc (8 * k)))))))) = omega arith in
     rw e (place ns rest k (le-of-suc-le-suc l))
 
-pub field-stands :
-    (result ns : List ℕ) (k : ℕ) → k < length ns → take 8 (drop (8 * k) (withFields result ns)) ≡ field (getD ns k 0)
-field-stands result ns k l = place ns _ k l
+pub field-at :
+    (result ns : List ℕ) (k : ℕ) → k < length ns → getD ns k 0 < 18446744073709551616 →
+    fieldAt (withFields result ns) k ≡ getD ns k 0
+field-at result ns k l m = ap fromBigEndian (place ns _ k l) ∙ number-back 8 (getD ns k 0) m

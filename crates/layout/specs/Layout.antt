@@ -2,8 +2,8 @@
 use Prim.Native.Nat.{ℕ, _*_}
 use mathlib.Core.Bool.{Bool, cond}
 use mathlib.Core.List.{List, [], _∷_, _++_}
-use lib.ListN.{length, drop}
-use Rattle.coder.specs.BigEndian.{bigEndian}
+use lib.ListN.{length, take, drop}
+use Rattle.coder.specs.BigEndian.{bigEndian, fromBigEndian}
 use Rattle.search.specs.declared.Verdict.{Verdict}
 use Rattle.search.specs.declared.Verdict.the-variants.{Least, NoDecoder}
 
@@ -24,6 +24,10 @@ fieldsOf (n ∷ ns) = field n ++ fieldsOf ns
 -- written).
 abbrev pub withFields : List ℕ → List ℕ → List ℕ
 withFields result ns = fieldsOf ns ++ drop (8 * length ns) result
+
+-- Field k of a result buffer, as a host reads it. It is the number written there (`field-at` of proofs/Reading.antt).
+abbrev pub fieldAt : List ℕ → ℕ → ℕ
+fieldAt result k = fromBigEndian (take 8 (drop (8 * k) result))
 
 -- The fields of a verdict ("Looped pair", the sentence on the verdict): its kind, then a window's two sides, or a looped pair's start
 -- states and four lengths.

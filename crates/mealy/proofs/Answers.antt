@@ -5,9 +5,9 @@ use mathlib.Core.List.{List, [], _∷_}
 use Prim.Native.Nat.{ℕ, suc, _<_}
 use native.Mathlib.Omega.{arith}
 use lib.ListN.{length, getD}
-use Rattle.mealy.specs.Machine.{Machine, outs, Letters}
+use Rattle.mealy.specs.Machine.{Machine, outs}
 use Rattle.mealy.specs.Setting.{Setting}
-use Rattle.mealy.specs.Answer.{Answer, letter, none, several, Alone, Two, Answers}
+use Rattle.mealy.specs.Answer.{Answer, letter, none, several, NoRun, Alone, Two, Answers}
 
 pub length-outs : (M : Machine) (s : ℕ) (xs : List ℕ) → length (outs M s xs) ≡ length xs
 length-outs M s [] = refl
@@ -28,11 +28,7 @@ module _ (S : Setting) (w : List ℕ) (b : ℕ) where
   answer-unique several none p q = absurd (q (p .x) (p .fits₁))
   answer-unique several several p q = refl
 
-  -- no run gives the outputs
-  abbrev pub NoRun : Type 0
-  NoRun = (s : ℕ) (xs : List ℕ) → S .Start s → Letters (S .M .inputs) xs → outs (S .M) s xs ≡ w → ⊥
-
-  pub none↔no-run : b < length w → Answers S w b none ↔ NoRun
+  pub none↔no-run : b < length w → Answers S w b none ↔ NoRun S w
   none↔no-run l = (
     (λ f s xs p q e. f (getD xs b 0) (record {
       s = s;

@@ -7,7 +7,7 @@ use lib.ListN.{length, getD, take, drop}
 use Rattle.mealy.specs.Machine.{Machine, outs, end, Letters}
 use Rattle.mealy.specs.Setting.{Setting, Bounded}
 use Rattle.mealy.specs.Answer.{Fits}
-use Rattle.mealy.specs.Image.{Image, Transitions, Following, Reached, Fitting, Entry, Successor}
+use Rattle.mealy.specs.Image.{Image, Transitions, Following, Fitting, Entry, Successor}
 
 -- ---- larger sets, more transitions
 

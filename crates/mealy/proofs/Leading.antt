@@ -2,7 +2,7 @@
 use mathlib.Core.List.{List, [], _∷_}
 use Prim.Native.Nat.{ℕ, zero, suc}
 use lib.ListN.{drop}
-use Rattle.mealy.specs.Image.{Image, Transitions, Following, Leading, Reached}
+use Rattle.mealy.specs.Image.{Image, Transitions, Leading, Reached}
 use Rattle.mealy.proofs.Images.{Within}
 
 -- a state of both sets

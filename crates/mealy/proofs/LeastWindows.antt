@@ -48,10 +48,6 @@ module _ {R : Relation} (order : Order R) (S : Setting) where
           (λ b′ a′ l′ h. let z = is b′ a′ l′ .0 h in
           order .transitive (need a) a (need a′) a′ b′ a′ (best a′ l′ (z .0)) (order .larger (need a′) a′ b′ a′ (z .1) (omega arith)))
 
-      -- whether any window works shows at lookahead L
-      pub none-need : top ≤ need L → (b a : ℕ) → Works S b a → ⊥
-      none-need l b a f = let z = is b L (omega arith) .0 (works-settled S closed L settled b a f) in omega arith
-
   -- no side of the least window is past the level where the levels of that side have settled
   pub least-sides :
       Closed S → (K L : ℕ) → Settled S back K → Settled S forward L → (b a : ℕ) → Least R S b a → (b ≤ K) × (a ≤ L)
@@ -190,3 +186,7 @@ fewest-letters = record {
     ]
   ];
 }
+
+-- of two windows of two letters, the one with less lookahead comes first
+pub less-lookahead : FewestLetters 1 0 0 1
+less-lookahead = omega arith

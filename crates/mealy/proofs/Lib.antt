@@ -16,7 +16,6 @@ pub mod PairDecisions
 pub mod LoopedPairs
 pub mod Answers
 pub mod Plain
-pub mod Examples
 pub mod ComesBack
 pub mod Places
 pub mod Pigeonhole

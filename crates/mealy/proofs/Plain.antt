@@ -9,7 +9,6 @@ use Rattle.mealy.specs.Setting.{Closed, Bounded, anyState}
 use Rattle.mealy.specs.Window.{Works, SameLetter}
 use Rattle.mealy.specs.Order.{Relation, Order, Least}
 use Rattle.mealy.specs.Product.{pairs}
-use Rattle.mealy.proofs.Decisions.{dec-works}
 use Rattle.mealy.proofs.Settling.{some-or-none}
 use Rattle.mealy.proofs.LeastWindows.{least-exists}
 
@@ -35,9 +34,6 @@ module _ (M : Machine) where
   module _ (total : Total M) where
     pub any-closed : Closed (anyState M)
     any-closed s i p l = total s i p l
-
-    pub any-works : (b a : ℕ) → Dec (Works (anyState M) b a)
-    any-works = dec-works (anyState M) any-start any-bounded any-closed any-conflict
 
     pub least-or-none :
         {R : Relation} → Order R →

@@ -1,9 +1,8 @@
 -- Settings that say the same agree on windows, looped pairs and answers.
 use mathlib.Core.Path.{_≡_, sym, subst}
-use mathlib.Core.List.{List, [], _∷_}
+use mathlib.Core.List.{List}
 use Prim.Native.Nat.{ℕ, zero, suc, _+_, _<_}
 use native.Mathlib.Omega.{arith}
-use lib.ListN.{length, getD}
 use Rattle.mealy.specs.Machine.{Machine, Letters}
 use Rattle.mealy.specs.Setting.{Setting, Same, Closed}
 use Rattle.mealy.specs.Window.{Works}

@@ -28,6 +28,10 @@ byteOf (letter x) = x
 byteOf none = 254
 byteOf several = 255
 
+-- no run gives the outputs w
+abbrev pub NoRun : Setting → List ℕ → Type 0
+NoRun S w = (s : ℕ) (xs : List ℕ) → S .Start s → Letters (S .M .inputs) xs → outs (S .M) s xs ≡ w → ⊥
+
 -- x fits, and nothing else does
 pub record Alone (S : Setting) (w : List ℕ) (b x : ℕ) : Type 0 where
   pub fits : Fits S w b x

@@ -12,7 +12,7 @@ use Rattle.coder.proofs.Fill.{getD-table}
 use Rattle.coder.proofs.Tables.{table-at, table-place, next-high}
 use Rattle.chains.specs.Chain.{isEntry}
 use Rattle.chains.proofs.Entries.{entry-place, is-entry}
-use Rattle.product.specs.Entries.{sources, near, far, Joins}
+use Rattle.product.specs.Entries.{sources, far, Joins}
 
 -- ---- places of tables
 
@@ -31,10 +31,6 @@ module _ (c : Coder) (sound : Sound c) where
 
   source-below : (p : ℕ) → Entry p → getD sources p 0 < c .states
   source-below p e = rw (source-at p (entry-below p e)) (entry-place _ _ p e .state)
-
-  pub near-below : (d : Direction) (p : ℕ) → Entry p → near d c p < c .states
-  near-below back p e = next-high c sound p
-  near-below forward p e = source-below p e
 
   pub far-below : (d : Direction) (p : ℕ) → Entry p → far d c p < c .states
   far-below back p e = source-below p e

@@ -3,16 +3,18 @@ use mathlib.Core.Path.{_≡_, refl, sym, ap₂, _∙_}
 use mathlib.Core.Logic.{_↔_}
 use mathlib.Core.List.{List}
 use Prim.Native.Nat.{ℕ, zero, suc}
+use native.Mathlib.Omega.{arith}
 use lib.ListN.{length}
 use lib.Dec.{leb}
 use Rattle.mealy.specs.Setting.{Setting}
 use Rattle.mealy.specs.Window.{Works}
 use Rattle.mealy.specs.Order.{Relation, Order}
 use Rattle.mealy.proofs.LeastWindows.{least-unique, fewest-letters}
+use Rattle.coder.specs.Refusal.{upon}
 use Rattle.coder.specs.File.{settingOf}
 use Rattle.values.specs.Window.{window}
 use Rattle.values.specs.declared.Window.{Window}
-use Rattle.search.specs.Search.{searchRefusal, wanted, order, Says, FoundVerdict, SearchPromise}
+use Rattle.search.specs.Search.{searchRefusal, wanted, order, PairReport, Says, IsNoDecoder, RefusedSearch, FoundVerdict, SearchPromise}
 use Rattle.search.specs.declared.Verdict.{Verdict}
 use Rattle.search.specs.declared.Verdict.the-variants.{Least, NoDecoder}
 use Rattle.search.specs.declared.SearchResult.{SearchResult}
@@ -21,71 +23,81 @@ use Rattle.search.specs.declared.SearchResult.the-variants.{Refused, Fou
 pub is-order : Order order
 is-order = fewest-letters
 
+-- ---- a search that was not refused
+
+-- no number applies, and its verdict says what it is to say
+pub record FoundSays (f before : List ℕ) (v : Verdict) (after : List ℕ) : Type 0 where
+  pub accepted : searchRefusal f (leb wanted (length before)) ≡ 0
+  pub says : Says order (settingOf f) v before after
+
+pub found :
+    (f before : List ℕ) (v : Verdict) (after : List ℕ) → SearchPromise f before (Found v) after → FoundSays f before v after
+found f before v after = go (searchRefusal f (leb wanted (length before))) refl
+  where
+    go :
+        (k : ℕ) → searchRefusal f (leb wanted (length before)) ≡ k →
+        upon k (λ j. RefusedSearch j (Found v) before after) (FoundVerdict order (settingOf f) (Found v) before after) →
+        FoundSays f before v after
+    go zero e q =
+        let d = q .is in
+        let z : v ≡ q .verdict = cc in
+        record { accepted = e; says = rw z (q .says) }
+    go (suc k) e q = let d = q .is in let z : _≡_ {A = ℕ} 0 1 = cc in absurd (omega arith)
+
 -- ---- "no decoder" exactly when no window works
 
--- the verdict is a looped pair
-abbrev pub IsPair : Verdict → Type 0
-IsPair (Least w) = ⊥
-IsPair (NoDecoder p) = Unit {0}
-
--- the result is "no decoder", with whatever pair
-abbrev pub IsNoDecoder : SearchResult → Type 0
-IsNoDecoder (Refused k) = ⊥
-IsNoDecoder (Found v) = IsPair v
-
-pair-exactly :
+exactly :
     (R : Relation) (S : Setting) (v : Verdict) (before after : List ℕ) → Says R S v before after →
-    IsPair v ↔ ((b a : ℕ) → Works S b a → ⊥)
-pair-exactly R S (Least w) before after h = (λ x. absurd x, λ none. none (w .before) (w .after) (h .least .works))
-pair-exactly R S (NoDecoder p) before after h = (λ x. h .none, λ none. tt)
+    IsNoDecoder v ↔ ((b a : ℕ) → Works S b a → ⊥)
+exactly R S (Least w) before after h = (λ x. absurd x, λ none. none (w .before) (w .after) (h .least .works))
+exactly R S (NoDecoder p) before after h = (λ x. h .none, λ none. tt)
 
 -- Demand 3, first sentence: a search that is not refused says "no decoder" exactly when no window works, whatever its sides.
 pub no-decoder-exactly :
-    (f before : List ℕ) (r : SearchResult) (after : List ℕ) → searchRefusal f (leb wanted (length before)) ≡ 0 →
-    SearchPromise f before r after → IsNoDecoder r ↔ ((b a : ℕ) → Works (settingOf f) b a → ⊥)
-no-decoder-exactly f before r after e h =
-    let g : FoundVerdict order (settingOf f) r before after = rw e at h in
-    rw (g .is) (pair-exactly order (settingOf f) (g .verdict) before after (g .says))
+    (f before : List ℕ) (v : Verdict) (after : List ℕ) → SearchPromise f before (Found v) after →
+    IsNoDecoder v ↔ ((b a : ℕ) → Works (settingOf f) b a → ⊥)
+no-decoder-exactly f before v after h = exactly order (settingOf f) v before after (found f before v after h .says)
 
 -- ---- two outcomes of one call
 
--- Two verdicts with the buffers after them. Which looped pair is given is left open by document 01 ("Looped pair": "Which valid
--- pair the search gives is left open"), so of two pairs only the sizes of the buffers are compared.
-abbrev pub SameVerdict : Verdict → List ℕ → Verdict → List ℕ → Type 0
-SameVerdict (Least w) after (Least w′) after′ = (w ≡ w′) × (after ≡ after′)
-SameVerdict (Least w) after (NoDecoder p′) after′ = ⊥
-SameVerdict (NoDecoder p) after (Least w′) after′ = ⊥
-SameVerdict (NoDecoder p) after (NoDecoder p′) after′ = length after ≡ length after′
+module _ (S : Setting) (before : List ℕ) where
+  -- Two verdicts with the buffers after them. Which looped pair is given is left open by document 01 ("Looped pair", the last sentence
+  -- of its first paragraph): of two pairs each is one that the search may give.
+  abbrev pub SameVerdict : Verdict → List ℕ → Verdict → List ℕ → Type 0
+  SameVerdict (Least w) after (Least w′) after′ = (w ≡ w′) × (after ≡ after′)
+  SameVerdict (Least w) after (NoDecoder p′) after′ = ⊥
+  SameVerdict (NoDecoder p) after (Least w′) after′ = ⊥
+  SameVerdict (NoDecoder p) after (NoDecoder p′) after′ = PairReport S p before after × PairReport S p′ before after′
 
--- the same for two results
-abbrev pub SameButPair : SearchResult → List ℕ → SearchResult → List ℕ → Type 0
-SameButPair (Refused k) after (Refused k′) after′ = (k ≡ k′) × (after ≡ after′)
-SameButPair (Refused k) after (Found v′) after′ = ⊥
-SameButPair (Found v) after (Refused k′) after′ = ⊥
-SameButPair (Found v) after (Found v′) after′ = SameVerdict v after v′ after′
+  -- the same for two results
+  abbrev pub SameButPair : SearchResult → List ℕ → SearchResult → List ℕ → Type 0
+  SameButPair (Refused k) after (Refused k′) after′ = (k ≡ k′) × (after ≡ after′)
+  SameButPair (Refused k) after (Found v′) after′ = ⊥
+  SameButPair (Found v) after (Refused k′) after′ = ⊥
+  SameButPair (Found v) after (Found v′) after′ = SameVerdict v after v′ after′
 
 window-same : (w w′ : Window) → w .before ≡ w′ .before → w .after ≡ w′ .after → w ≡ w′
 window-same w w′ e d = ap₂ window e d
 
 verdict-determined :
     {R : Relation} → Order R → (S : Setting) (before : List ℕ) (v v′ : Verdict) (after after′ : List ℕ) → Says R S v before after →
-    Says R S v′ before after′ → SameVerdict v after v′ after′
+    Says R S v′ before after′ → SameVerdict S before v after v′ after′
 verdict-determined o S before (Least w) (Least w′) after after′ p q =
     let e = least-unique o S (w .before) (w .after) (w′ .before) (w′ .after) (p .least) (q .least) in
     (window-same w w′ (e .0) (e .1), p .stays ∙ sym (q .stays))
 verdict-determined o S before (Least w) (NoDecoder p′) after after′ p q = q .none (w .before) (w .after) (p .least .works)
 verdict-determined o S before (NoDecoder p₀) (Least w′) after after′ p q = p .none (w′ .before) (w′ .after) (q .least .works)
-verdict-determined o S before (NoDecoder p₀) (NoDecoder p′) after after′ p q = p .size ∙ sym (q .size)
+verdict-determined o S before (NoDecoder p₀) (NoDecoder p′) after after′ p q = (p, q)
 
 -- Two outcomes that meet the promise for the same arguments are equal but for which looped pair is given, and its bytes.
 pub search-determined :
     (f before : List ℕ) (r r′ : SearchResult) (after after′ : List ℕ) → SearchPromise f before r after →
-    SearchPromise f before r′ after′ → SameButPair r after r′ after′
+    SearchPromise f before r′ after′ → SameButPair (settingOf f) before r after r′ after′
 search-determined f before r r′ after after′ = go (searchRefusal f (leb wanted (length before))) refl
   where
     go :
         (k : ℕ) → searchRefusal f (leb wanted (length before)) ≡ k → SearchPromise f before r after →
-        SearchPromise f before r′ after′ → SameButPair r after r′ after′
+        SearchPromise f before r′ after′ → SameButPair (settingOf f) before r after r′ after′
     go zero e p q =
         let x = rw e at p in
         let y = rw e at q in

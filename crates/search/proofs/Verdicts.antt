@@ -10,12 +10,10 @@ use Rattle.mealy.specs.Product.{back, forward}
 use Rattle.mealy.proofs.LoopedPairs.{turned-runs, excludes}
 use Rattle.coder.specs.Table.{machineOfCoder, Sound}
 use Rattle.coder.specs.declared.inner.tables.Coder.{Coder}
-use Rattle.chains.specs.Chain.{Keys}
 use Rattle.coder.specs.Limits.{maxSide}
 use Rattle.product.specs.Depth.{endless}
 use Rattle.product.specs.Rounds.{DepthsFound}
 use Rattle.product.specs.declared.inner.Edge.{Edge}
-use Rattle.coder.proofs.Tables.{output-high}
 use Rattle.coder.proofs.Fill.{getD-zeros}
 use Rattle.least.specs.Need.{EachCounted, ConflictsDone, Needs, Chosen}
 use Rattle.values.specs.Pair.{pairOf}

@@ -53,6 +53,11 @@ abbrev pub Says : Relation → Setting → Verdict → List ℕ → List ℕ →
 Says R S (Least w) before after = WindowReport R S w before after
 Says R S (NoDecoder p) before after = PairReport S p before after
 
+-- It is "no decoder", with whatever pair.
+abbrev pub IsNoDecoder : Verdict → Type 0
+IsNoDecoder (Least w) = ⊥
+IsNoDecoder (NoDecoder p) = Unit {0}
+
 pub record FoundVerdict (R : Relation) (S : Setting) (r : SearchResult) (before after : List ℕ) : Type 0 where
   pub verdict : Verdict
   pub is : r ≡ Found verdict

@@ -1,5 +1,5 @@
 -- From the words of a coder's setting to the setting of its file.
-use mathlib.Core.Path.{_≡_, refl, ap, _∙_}
+use mathlib.Core.Path.{_≡_, ap, _∙_}
 use mathlib.Core.List.{List}
 use Prim.Native.Nat.{ℕ, _<_}
 use native.Mathlib.Omega.{arith}
@@ -11,20 +11,7 @@ use Rattle.coder.specs.Table.{coderOf, machineOfCoder, Sound}
 use Rattle.coder.specs.declared.inner.tables.Coder.{Coder}
 use Rattle.coder.proofs.Accepted.{Accepted}
 use Rattle.coder.proofs.Tables.{machine-same, sound-coder, total}
-use Rattle.setting.specs.Words.{settingOfCoder, WordsOf}
-
--- the setting of the words is that of the coder
-pub same-coder :
-    {c : Coder} {starts : ℕ} {conflicts : List ℕ} → Sound c → WordsOf c starts conflicts →
-    Same (worded (machineOfCoder c) starts conflicts) (settingOfCoder c)
-same-coder s w =
-    record {
-      machine = refl;
-      start = λ x p. p .0;
-      start′ = λ x p. (p, w .starts-are .has x p);
-      conflict = λ i j l m. w .conflicts-are .conflict′ i j (omega (arith, s .inputs-high)) (omega (arith, s .inputs-high));
-      conflict′ = λ i j l m. w .conflicts-are .conflict i j (omega (arith, s .inputs-high)) (omega (arith, s .inputs-high));
-    }
+use Rattle.setting.specs.Words.{WordsOf}
 
 -- the coder of an accepted file
 module _ {c : Coder} {f : List ℕ} (e : c ≡ coderOf f) (a : Accepted f) where

@@ -1,5 +1,9 @@
 -- Theorems over the promises of several calls.
+pub mod Published
+pub mod Handing
 pub mod RoundTrip
+pub mod HostRoundTrip
 pub mod Tests
 pub mod Starred
 pub mod SearchChecked
+pub mod Demands

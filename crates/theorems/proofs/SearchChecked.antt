@@ -2,50 +2,27 @@
 use mathlib.Core.Path.{_≡_, refl}
 use mathlib.Core.Bool.{Bool, true, false}
 use mathlib.Core.List.{List}
-use Prim.Native.Nat.{ℕ, zero, suc, _*_}
-use native.Mathlib.Omega.{arith}
+use Prim.Native.Nat.{ℕ, _*_}
 use lib.ListN.{length, take}
 use lib.Dec.{leb}
 use lib.Seq.{length-take-le}
 use borrow.Author.Tests.{lt-ltb, eq-eqb}
 use Rattle.mealy.specs.LoopedPair.{letters, first, second}
 use Rattle.mealy.proofs.PairBytes.{valid-letters, valid-cut}
-use Rattle.coder.specs.Refusal.{upon}
-use Rattle.coder.specs.File.{fileRefusal, statesOf, inputsOf, machineOf, settingOf}
+use Rattle.coder.specs.File.{statesOf, inputsOf, machineOf, settingOf}
 use Rattle.values.specs.Pair.{pairOf}
 use Rattle.values.specs.declared.LoopedPair.{LoopedPair}
-use Rattle.search.specs.Search.{searchRefusal, wanted, order, PairReport, Says, RefusedSearch, FoundVerdict, SearchPromise}
+use Rattle.search.specs.Search.{wanted, SearchPromise}
 use Rattle.search.specs.declared.SearchResult.the-variants.{Found}
-use Rattle.search.specs.declared.Verdict.{Verdict}
-use Rattle.search.specs.declared.Verdict.the-variants.{Least, NoDecoder}
+use Rattle.search.specs.declared.Verdict.the-variants.{NoDecoder}
 use Rattle.search.proofs.Files.{search-accepted}
+use Rattle.search.proofs.Determined.{found}
 use Rattle.checker.specs.Check.{checkRefusal, CheckedRight, CheckPromise}
 use Rattle.checker.specs.declared.CheckResult.{CheckResult}
 use Rattle.checker.specs.declared.CheckResult.the-variants.{Checked}
 use Rattle.theorems.proofs.RoundTrip.{letters-test}
 
--- a search that found a pair was not refused, and its report is that of the pair
-record PairFound (f before : List ℕ) (p : LoopedPair) (after : List ℕ) : Type 0 where
-  file : fileRefusal f ≡ 0
-  report : PairReport (settingOf f) p before after
-
-pair-found :
-    (f before : List ℕ) (p : LoopedPair) (after : List ℕ) → SearchPromise f before (Found (NoDecoder p)) after → PairFound f before p after
-pair-found f before p after = go (searchRefusal f (leb wanted (length before))) refl
-  where
-    of :
-        (v : Verdict) → Found (NoDecoder p) ≡ Found v → Says order (settingOf f) v before after → PairReport (settingOf f) p before after
-    of (Least w) e s = let z : _≡_ {A = ℕ} 0 1 = cc in absurd (omega arith)
-    of (NoDecoder q) e s = let z : p ≡ q = cc in rw z s
-
-    go :
-        (k : ℕ) → searchRefusal f (leb wanted (length before)) ≡ k →
-        upon k (λ j. RefusedSearch j (Found (NoDecoder p)) before after) (FoundVerdict order (settingOf f) (Found (NoDecoder p)) before after) →
-        PairFound f before p after
-    go zero e q = record { file = search-accepted f (leb wanted (length before)) e .0; report = of (q .verdict) (q .is) (q .says) }
-    go (suc k) e q = let d = q .is in let z : _≡_ {A = ℕ} 0 1 = cc in absurd (omega arith)
-
-yes-only : {r : CheckResult} (a : Bool) → r ≡ Checked a → (a ≡ false → ⊥) → r ≡ Checked true
+pub yes-only : {r : CheckResult} (a : Bool) → r ≡ Checked a → (a ≡ false → ⊥) → r ≡ Checked true
 yes-only true e n = e
 yes-only false e n = absurd (n refl)
 
@@ -55,13 +32,13 @@ pub search-checked :
     CheckPromise f (pairOf p (take (2 * letters (pairOf p after)) after)) r → r ≡ Checked true
 unfolding machineOf checkRefusal
 search-checked f before p after r s c =
-    let h = pair-found f before p after s in
-    let v = h .report .valid in
+    let h = found f before (NoDecoder p) after s in
+    let v = h .says .valid in
     let n = 2 * letters (pairOf p after) in
     let long = length-take-le n after (v .held) in
     let fine : checkRefusal f (pairOf p (take n after)) true ≡ 0 =
     rw (
-      h .file,
+      search-accepted f (leb wanted (length before)) (h .accepted) .0,
       lt-ltb (p .s) (statesOf f) (v .start first),
       lt-ltb (p .t) (statesOf f) (v .start second),
       eq-eqb (length (take n after)) n long,

@@ -1,37 +1,59 @@
 -- The starred cases hold: one computed test over the table, and a law from the test to each claim.
-use mathlib.Core.Path.{_≡_, refl, ap, subst}
+use mathlib.Core.Path.{_≡_, refl, sym, ap, ap₂, _∙_}
 use mathlib.Core.Bool.{Bool, true, false, _&&_}
-use mathlib.Core.List.{List, [], _∷_}
-use Prim.Native.Nat.{ℕ}
+use mathlib.Core.List.{List, [], _∷_, _++_}
+use Prim.Native.Nat.{ℕ, _≤_, _<_}
 use native.Mathlib.Omega.{arith}
-use lib.ListN.{length, getD}
-use lib.Dec.{ltb, eqb}
-use borrow.Author.Tests.{ltb-true, eqb-true}
+use lib.ListN.{length, getD, drop}
+use lib.Dec.{leb, eqb}
+use borrow.Author.Tests.{eqb-true, le-leb}
 use lib.Count.{leadingZeros}
 use Rattle.mealy.specs.Machine.{outs, end}
+use Rattle.mealy.specs.Order.{FewestLetters, Least as LeastOf}
+use Rattle.mealy.specs.LoopedPair.{LoopedPair, Valid}
 use Rattle.mealy.specs.Answer.{byteOf}
 use Rattle.mealy.proofs.Plain.{any-closed}
 use Rattle.mealy.proofs.LoopedPairs.{excludes}
+use Rattle.mealy.proofs.LeastWindows.{least-unique}
 use Rattle.coder.specs.Refusal.{allBelow}
-use Rattle.coder.specs.File.{within, inRange, entryInRange, entriesRefusal, fileRefusal, entryOf, outputsOf, machineOf, settingOf}
+use Rattle.coder.specs.File.{within, inRange, entryInRange, entriesRefusal, fileRefusal, entryOf, statesOf, inputsOf, outputsOf, machineOf, settingOf}
 use Rattle.coder.specs.Table.{table, coderOf, tableAt}
 use Rattle.coder.proofs.Refusals.{true-false, both-true, all-at}
 use Rattle.coder.proofs.Accepted.{accepted}
 use Rattle.coder.proofs.Tables.{total}
 use Rattle.chains.specs.Chain.{isEntry, hasKey, over}
+use Rattle.running.specs.Run.{runRefusal, runRefusalIn}
+use Rattle.running.specs.declared.RunResult as run-result
 use Rattle.values.specs.Window.{window, size}
+use Rattle.values.specs.declared.Window.{Window}
+use Rattle.values.specs.declared.LoopedPair as values
 use Rattle.fitting.specs.Answer.{meaning, answerOf}
-use Rattle.filling.specs.Sets.{contribution, gather, add, added}
-use Rattle.filling.specs.Window.{pass, unionOf, decoded}
 use Rattle.fitting.specs.declared.Answer.{Answer}
 use Rattle.fitting.specs.declared.Answer.the-variants.{Letter, None, Several}
-use Rattle.fitting.proofs.Answers.{right-byte}
-use Rattle.decoder.specs.Refusal.{tableSize}
+use Rattle.fitting.proofs.Answers.{right-unique, right-byte, right-byte-unique}
+use Rattle.filling.specs.Sets.{contribution, gather, add, added}
 use Rattle.filling.specs.Table.{windowAt}
-use Rattle.decoder.proofs.Decoding.{startsOf, file-right}
+use Rattle.filling.specs.Window.{pass, unionOf, decoded}
 use Rattle.filling.proofs.Indices.{length-window}
+use Rattle.decoder.specs.Written.{Written}
+use Rattle.decoder.specs.Refusal.{sidesRefusal, windowRefusal, tableSize, tableRefusal}
+use Rattle.decoder.specs.Window.{AnsweredRight}
+use Rattle.decoder.specs.Table.{EntryOf, tableRefusalIn}
+use Rattle.decoder.specs.declared.WindowResult.the-variants.{Answered}
+use Rattle.decoder.specs.declared.CountResult.the-variants.{Done}
+use Rattle.decoder.proofs.Accepting.{window-accepted}
+use Rattle.decoder.proofs.Writing.{written-bytes, written-unique}
+use Rattle.decoder.proofs.Decoding.{startsOf, file-right}
+use Rattle.search.specs.Search.{searchRefusal, wanted, order, Says, FoundVerdict, SearchPromise}
+use Rattle.search.specs.declared.Verdict.{Verdict}
+use Rattle.search.specs.declared.Verdict.the-variants.{Least, NoDecoder}
+use Rattle.search.specs.declared.SearchResult.{SearchResult}
+use Rattle.search.specs.declared.SearchResult.the-variants.{Found}
+use Rattle.search.proofs.Determined.{is-order}
+use Rattle.checker.specs.Check.{checkRefusal, CheckedRight}
 use Rattle.theorems.specs.Starred as claimed
 use Rattle.theorems.specs.Starred.{Claim, Case, Holds, AllHold, AllCases, starred}
+use Rattle.theorems.proofs.SearchChecked.{yes-only}
 use Rattle.theorems.proofs.Tests.{sameList, same-list, allWords, agree, worksTest, later, leastTest, least-test, closesTest, validTest, valid-test, differentTest, different-test}
 
 -- ---- the test of a claim
@@ -63,43 +85,128 @@ abbrev entryByte : List ℕ → ℕ → ℕ → ℕ → ℕ
 entryByte f n b k = byteOf (meaning (decoded (coderOf f) (startsOf f) (windowAt (outputsOf f) n k) b))
 
 unfoldable test : List ℕ → Claim → Bool
+test f (claimed.counts n i o) = eqb (statesOf f) n && (eqb (inputsOf f) i && eqb (outputsOf f) o)
 test f (claimed.window b a) = leastTest (machineOf f) b a
-test f (claimed.no-decoder p) = validTest (machineOf f) p
+test f (claimed.no-decoder p) = validTest (machineOf f) p && eqb (checkRefusal f p true) 0
 test f claimed.different-outputs = differentTest (machineOf f)
-test f (claimed.answer b w v) = ltb b (length w) && sameAnswer (decoded (coderOf f) (startsOf f) w b) v
+test f (claimed.answer b a w v) =
+    eqb (windowRefusal f (window b a) w true) 0 && sameAnswer (decoded (coderOf f) (startsOf f) w b) v
 test f (claimed.table b a bytes) =
-    (eqb (length bytes) (tableSize (outputsOf f) (window b a)) && allBelow (length bytes) (λ k. eqb (getD bytes k 0) (entryByte f (size (window b a)) b k)))
-test f (claimed.run s xs os e) = sameList (outs (machineOf f) s xs) os && eqb (end (machineOf f) s xs) e
+    (eqb (tableRefusal f (window b a) true) 0 && (eqb (length bytes) (tableSize (outputsOf f) (window b a)) && allBelow (length bytes) (λ k. eqb (getD bytes k 0) (entryByte f (size (window b a)) b k))))
+test f (claimed.run s xs os e) =
+    (eqb (runRefusal f s xs true) 0 && (sameList (outs (machineOf f) s xs) os && eqb (end (machineOf f) s xs) e))
 
 -- ---- from the test to the claim
 
-different : (f : List ℕ) → differentTest (machineOf f) ≡ true → Holds f claimed.different-outputs
-unfolding machineOf
-different f e = different-test (machineOf f) e
+module _ (f : List ℕ) (z : fileRefusal f ≡ 0) where
+  -- a search with room for any verdict is not refused
+  searched :
+      (before : List ℕ) (r : SearchResult) (after : List ℕ) → wanted ≤ length before → SearchPromise f before r after →
+      FoundVerdict order (settingOf f) r before after
+  unfolding searchRefusal
+  searched before r after l p =
+      let e : searchRefusal f (leb wanted (length before)) ≡ 0 = rw (z, le-leb wanted (length before) l) in
+      rw e at p
 
-claim-holds : (f : List ℕ) → fileRefusal f ≡ 0 → (c : Claim) → test f c ≡ true → Holds f c
-unfolding test
-claim-holds f z (claimed.window b a) e = least-test (machineOf f) b a e
-claim-holds f z (claimed.no-decoder p) e =
-    let v = valid-test (machineOf f) p e in
-    (v, excludes (settingOf f) p v (any-closed (machineOf f) (total f (accepted f z))))
-claim-holds f z claimed.different-outputs e = different f e
-claim-holds f z (claimed.answer b w v) e =
-    let t = both-true (ltb b (length w)) (sameAnswer (decoded (coderOf f) (startsOf f) w b) v) e in
-    let q : decoded (coderOf f) (startsOf f) w b ≡ v = same-answer (decoded (coderOf f) (startsOf f) w b) v (t .1) in
-    subst (λ (v : Answer). Holds f (claimed.answer b w v)) q (file-right f z w b (ltb-true _ _ (t .0)))
-claim-holds f z (claimed.table b a bytes) e =
-    let n = size (window b a) in
-    let t = both-true (eqb (length bytes) (tableSize (outputsOf f) (window b a))) (allBelow (length bytes) (λ k. eqb (getD bytes k 0) (entryByte f n b k))) e in (
-      eqb-true _ _ (t .0),
-      λ k l.
-          let w = windowAt (outputsOf f) n k in
-          let q : getD bytes k 0 ≡ entryByte f n b k = eqb-true _ _ (all-at (length bytes) (λ k. eqb (getD bytes k 0) (entryByte f n b k)) (t .1) k l) in
-          rw q (right-byte (settingOf f) w b (decoded (coderOf f) (startsOf f) w b) (file-right f z w b (omega (arith, length-window (outputsOf f) n k)))),
-    )
-claim-holds f z (claimed.run s xs os e′) e =
-    let t = both-true (sameList (outs (machineOf f) s xs) os) (eqb (end (machineOf f) s xs) e′) e in
-    (same-list _ _ (t .0), eqb-true _ _ (t .1))
+  window-holds : (b a : ℕ) → LeastOf FewestLetters (settingOf f) b a → Holds f (claimed.window b a)
+  window-holds b a least before r after l p = go (h .verdict) (h .is) (h .says)
+    where
+      h : FoundVerdict order (settingOf f) r before after
+      h = searched before r after l p
+
+      go :
+          (v : Verdict) → r ≡ Found v → Says order (settingOf f) v before after →
+          (r ≡ Found (Least (window b a))) × (after ≡ before)
+      go (Least w) e s =
+          let u = least-unique is-order (settingOf f) (w .before) (w .after) b a (s .least) least in
+          (e ∙ ap (λ (x : Window). Found (Least x)) (ap₂ window (u .0) (u .1)), s .stays)
+      go (NoDecoder q) e s = absurd (s .none b a (least .works))
+
+  no-decoder-holds :
+      (p : LoopedPair) → Valid (settingOf f) p → checkRefusal f p true ≡ 0 → Holds f (claimed.no-decoder p)
+  no-decoder-holds p v e = (
+    (λ before r after l s. let h = searched before r after l s in go r (h .verdict) (h .is) before after (h .says)),
+    λ r c.
+        let g : CheckedRight f p r = rw e at c in
+        yes-only (g .answer) (g .is) (λ no. g .no′ no v),
+  )
+    where
+      go :
+          (r : SearchResult) (u : Verdict) → r ≡ Found u → (before after : List ℕ) → Says order (settingOf f) u before after →
+          (q : values.LoopedPair) × (r ≡ Found (NoDecoder q))
+      go r (Least w) e before after s =
+          absurd
+          (excludes (settingOf f) p v (any-closed (machineOf f) (total f (accepted f z))) (w .before) (w .after) (s .least .works))
+      go r (NoDecoder q) e before after s = (q, e)
+
+  answer-holds :
+      (b a : ℕ) (received : List ℕ) (v : Answer) → windowRefusal f (window b a) received true ≡ 0 →
+      decoded (coderOf f) (startsOf f) received b ≡ v → Holds f (claimed.answer b a received v)
+  answer-holds b a received v e q r p =
+      let h : AnsweredRight f (window b a) received r = rw e at p in
+      let inside = window-accepted f (window b a) received true e .long in
+      let right = file-right f z received b (omega arith) in
+      h .is ∙ ap (λ (x : Answer). Answered x) (right-unique (settingOf f) received b (h .answer) _ (h .right) right ∙ q)
+
+  table-holds :
+      (b a : ℕ) (bytes : List ℕ) → tableRefusal f (window b a) true ≡ 0 → length bytes ≡ tableSize (outputsOf f) (window b a) →
+      ((k : ℕ) → k < length bytes → getD bytes k 0 ≡ entryByte f (size (window b a)) b k) → Holds f (claimed.table b a bytes)
+  table-holds b a bytes e long each before r after l p =
+      let w = window b a in
+      let n = tableSize (outputsOf f) w in
+      let room : n ≤ length before = omega arith in
+      let none : tableRefusalIn f w (length before) true ≡ 0 = rw (le-leb n (length before) room) e in
+      let written : Written (EntryOf f w) n before after = rw none at (p .bytes) in (
+        (rw none at (p .result)) ∙ ap (λ (m : ℕ). Done m) (sym long),
+        rw long
+            (written-unique (λ k x y. right-byte-unique (settingOf f) (windowAt (outputsOf f) (size w) k) b) written
+            (written-bytes bytes long room (λ k m.
+            let part = windowAt (outputsOf f) (size w) k in
+            rw (each k (omega arith))
+            (right-byte (settingOf f) part b (decoded (coderOf f) (startsOf f) part b)
+            (file-right f z part b (omega (arith, length-window (outputsOf f) (size w) k))))))),
+      )
+
+  run-holds :
+      (s : ℕ) (xs os : List ℕ) (e : ℕ) → runRefusal f s xs true ≡ 0 → outs (machineOf f) s xs ≡ os → end (machineOf f) s xs ≡ e →
+      Holds f (claimed.run s xs os e)
+  run-holds s xs os e none o n before r after l p =
+      let none′ : runRefusalIn f s xs before ≡ 0 = rw (le-leb (length xs) (length before) l) none in (
+        (rw none′ at (p .result)) ∙ ap (λ (x : ℕ). run-result.the-variants.Done (length xs) x) n,
+        (rw none′ at (p .bytes)) ∙ ap (λ (x : List ℕ). x ++ drop (length xs) before) o,
+      )
+
+  different : differentTest (machineOf f) ≡ true → Holds f claimed.different-outputs
+  unfolding machineOf
+  different e = different-test (machineOf f) e
+
+  claim-holds : (c : Claim) → test f c ≡ true → Holds f c
+  unfolding test
+  claim-holds (claimed.counts n i o) e =
+      let t = both-true (eqb (statesOf f) n) (eqb (inputsOf f) i && eqb (outputsOf f) o) e in
+      let u = both-true (eqb (inputsOf f) i) (eqb (outputsOf f) o) (t .1) in
+      λ r p. rw (eqb-true (statesOf f) n (t .0), eqb-true (inputsOf f) i (u .0), eqb-true (outputsOf f) o (u .1)) at (rw z at p)
+  claim-holds (claimed.window b a) e = window-holds b a (least-test (machineOf f) b a e)
+  claim-holds (claimed.no-decoder p) e =
+      let t = both-true (validTest (machineOf f) p) (eqb (checkRefusal f p true) 0) e in
+      no-decoder-holds p (valid-test (machineOf f) p (t .0)) (eqb-true _ _ (t .1))
+  claim-holds claimed.different-outputs e = different e
+  claim-holds (claimed.answer b a w v) e =
+      let d = decoded (coderOf f) (startsOf f) w b in
+      let t = both-true (eqb (windowRefusal f (window b a) w true) 0) (sameAnswer d v) e in
+      answer-holds b a w v (eqb-true _ _ (t .0)) (same-answer d v (t .1))
+  claim-holds (claimed.table b a bytes) e =
+      let same : ℕ → Bool = λ k. eqb (getD bytes k 0) (entryByte f (size (window b a)) b k) in
+      let long = eqb (length bytes) (tableSize (outputsOf f) (window b a)) in
+      let t = both-true (eqb (tableRefusal f (window b a) true) 0) (long && allBelow (length bytes) same) e in
+      let u = both-true long (allBelow (length bytes) same) (t .1) in
+      table-holds b a bytes (eqb-true _ _ (t .0)) (eqb-true _ _ (u .0)) (λ k l. eqb-true _ _ (all-at (length bytes) same (u .1) k l))
+  claim-holds (claimed.run s xs os e′) e =
+      let same = sameList (outs (machineOf f) s xs) os in
+      let ends = eqb (end (machineOf f) s xs) e′ in
+      let t = both-true (eqb (runRefusal f s xs true) 0) (same && ends) e in
+      let u = both-true same ends (t .1) in
+      run-holds s xs os e′ (eqb-true _ _ (t .0)) (same-list _ _ (u .0)) (eqb-true _ _ (u .1))
 
 -- ---- the table
 
@@ -124,7 +231,7 @@ cases-hold (c ∷ cs) e =
     (z, claims-hold (c .file) z (c .claims) (u .0), cases-hold cs (u .1))
 
 passed : testCases starred ≡ true
-unfolding test leastTest later worksTest agree allWords validTest closesTest differentTest allBelow fileRefusal entriesRefusal inRange within entryInRange machineOf entryOf coderOf table tableAt decoded pass added add contribution gather unionOf answerOf leadingZeros hasKey isEntry over windowAt
+unfolding test checkRefusal windowRefusal tableRefusal runRefusal sidesRefusal leastTest later worksTest agree allWords validTest closesTest differentTest allBelow fileRefusal entriesRefusal inRange within entryInRange machineOf entryOf coderOf table tableAt decoded pass added add contribution gather unionOf answerOf leadingZeros hasKey isEntry over windowAt
 passed = refl
 
 -- every starred case: its file is accepted, and all that is claimed of it holds

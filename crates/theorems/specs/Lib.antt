@@ -1,3 +1,6 @@
 -- What the theorems over several calls conclude.
+pub mod Published
+pub mod Handed
 pub mod RoundTrip
 pub mod Starred
+pub mod Demands

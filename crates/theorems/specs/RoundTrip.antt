@@ -1,20 +1,80 @@
--- Demand 2, last sentence: what run, search and string decoder give together.
+-- Demand 2, last sentence: what run, search and string decoder give together, for the library's own calls and for a host in C.
 use mathlib.Core.Path.{_≡_}
 use mathlib.Core.List.{List}
-use Prim.Native.Nat.{ℕ, _+_, _<_}
-use lib.ListN.{length, getD}
-use Rattle.mealy.specs.Machine.{end}
-use Rattle.coder.specs.File.{machineOf}
+use Prim.Native.Nat.{ℕ, _+_, _≤_, _<_}
+use lib.ListN.{length, getD, take}
+use Rattle.mealy.specs.Machine.{end, Letters}
+use Rattle.coder.specs.File.{fileRefusal, statesOf, inputsOf, machineOf}
+use Rattle.running.specs.Run.{RunPromise}
 use Rattle.running.specs.declared.RunResult.{RunResult}
 use Rattle.running.specs.declared.RunResult as run
-use Rattle.values.specs.declared.Window.{Window}
 use Rattle.values.specs.Window.{window}
-use Rattle.decoder.specs.Places.{places}
+use Rattle.values.specs.declared.Window.{Window}
+use Rattle.search.specs.Search.{SearchPromise}
+use Rattle.search.specs.declared.Verdict.the-variants.{Least}
+use Rattle.search.specs.declared.SearchResult.the-variants.{Found}
+use Rattle.decoder.specs.Places.{places, StringPromise}
 use Rattle.decoder.specs.declared.CountResult.{CountResult}
 use Rattle.decoder.specs.declared.CountResult.the-variants.{Done}
+use Rattle.layout.specs.Layout.{resultBytes, fieldAt}
+use Rattle.lowhenita.specs.Host.{RunHosted, SearchHosted, DecodeHosted}
 
--- what the three calls give together: neither is refused, and the decoded bytes are the input letters with a full window
+-- The letters xs can be coded from state s: the file is accepted, and state and letters are the coder's.
+pub record Coded (f : List ℕ) (s : ℕ) (xs : List ℕ) : Type 0 where
+  pub file : fileRefusal f ≡ 0
+  pub start : s < statesOf f
+  pub letters : Letters (inputsOf f) xs
+
+-- The decoded bytes are the input letters with a full window, each at its place.
+abbrev pub Back : List ℕ → Window → List ℕ → Type 0
+Back xs w decoded = (k : ℕ) → k < places (length xs) w → getD decoded k 0 ≡ getD xs (k + w .before) 0
+
+-- What the three calls give, w being the window that the search reports: neither run nor decoder is refused, and the letters are
+-- back.
 pub record RoundTrip (f : List ℕ) (s : ℕ) (xs : List ℕ) (w : Window) (r₁ : RunResult) (r₃ : CountResult) (decoded : List ℕ) : Type 0 where
   pub ran : r₁ ≡ run.the-variants.Done (length xs) (end (machineOf f) s xs)
-  pub counted : r₃ ≡ Done (places (length xs) (window (w .before) (w .after)))
-  pub back : (k : ℕ) → k < places (length xs) (window (w .before) (w .after)) → getD decoded k 0 ≡ getD xs (k + w .before) 0
+  pub counted : r₃ ≡ Done (places (length xs) w)
+  pub back : Back xs w decoded
+
+-- For each outcome that the three calls promise, with room in the lent buffers: the run writes to after₁, the search reports w, and the
+-- decoder, given w and the letters that the run wrote, writes to after₃.
+abbrev pub LettersComeBack : Type 0
+LettersComeBack =
+    (f : List ℕ) (s : ℕ) (xs : List ℕ) → Coded f s xs →
+    (before₁ : List ℕ) (r₁ : RunResult) (after₁ : List ℕ) → length xs ≤ length before₁ → RunPromise f s xs before₁ r₁ after₁ →
+    (before₂ : List ℕ) (w : Window) (after₂ : List ℕ) → SearchPromise f before₂ (Found (Least w)) after₂ →
+    (before₃ : List ℕ) (r₃ : CountResult) (after₃ : List ℕ) → places (length xs) w ≤ length before₃ →
+    StringPromise f w (take (length xs) after₁) before₃ r₃ after₃ →
+    RoundTrip f s xs w r₁ r₃ after₃
+
+-- ---- for a host in C
+
+-- The same with what the host reads from the result buffers of run and decoder: both calls return 0, and the fields say how many
+-- letters were sent and decoded.
+pub record HostRoundTrip (xs : List ℕ) (w : Window) (r₁ : ℕ) (result₁ : List ℕ) (r₃ : ℕ) (result₃ decoded : List ℕ) : Type 0 where
+  pub ran : r₁ ≡ 0
+  pub sent : fieldAt result₁ 0 ≡ length xs
+  pub done : r₃ ≡ 0
+  pub counted : fieldAt result₃ 0 ≡ places (length xs) w
+  pub back : Back xs w decoded
+
+-- the window that a host reads from the result of a search
+abbrev pub windowRead : List ℕ → Window
+windowRead result = window (fieldAt result 1) (fieldAt result 2)
+
+-- a number that a field holds
+abbrev pub FieldHolds : ℕ → Type 0
+FieldHolds n = n < 18446744073709551616
+
+-- For each outcome that the three calls from C promise, with room in all lent buffers: the search returned 0 with a window, and the
+-- decoder is given the window and the number of sent letters as the host read them.
+abbrev pub LettersComeBackFromC : Type 0
+LettersComeBackFromC =
+    (f : List ℕ) (s : ℕ) (xs : List ℕ) → Coded f s xs → FieldHolds (length xs) →
+    (before₁ result₁ : List ℕ) (r₁ : ℕ) (after₁ result₁′ : List ℕ) → length xs ≤ length before₁ → resultBytes ≤ length result₁ →
+    RunHosted f s xs before₁ result₁ r₁ after₁ result₁′ →
+    (before₂ result₂ after₂ result₂′ : List ℕ) → SearchHosted f before₂ result₂ 0 after₂ result₂′ → fieldAt result₂′ 0 ≡ 0 →
+    (before₃ result₃ : List ℕ) (r₃ : ℕ) (after₃ result₃′ : List ℕ) →
+    places (length xs) (windowRead result₂′) ≤ length before₃ → resultBytes ≤ length result₃ →
+    DecodeHosted f (windowRead result₂′) (take (fieldAt result₁′ 0) after₁) before₃ result₃ r₃ after₃ result₃′ →
+    HostRoundTrip xs (windowRead result₂′) r₁ result₁′ r₃ result₃′ after₃

@@ -1,52 +1,78 @@
--- The starred cases of document 01 ("Example coders"): one table of coder files and what is claimed of each.
-use Prim.Native.Nat.{ℕ, _<_}
+-- The starred cases of document 01 ("Example coders"): one table of coder files and what is claimed of the calls on each. A claim says
+-- that every outcome that the call promises on this file is the one named.
+use Prim.Native.Nat.{ℕ, _≤_, _<_}
 use mathlib.Core.Path.{_≡_}
 use mathlib.Core.Logic.{_≢_}
-use mathlib.Core.List.{List, [], _∷_}
-use lib.ListN.{length, getD}
-use Rattle.mealy.specs.Machine.{outs, end}
-use Rattle.mealy.specs.Window.{Works}
-use Rattle.mealy.specs.Order.{FewestLetters, Least}
-use Rattle.mealy.specs.LoopedPair.{LoopedPair, Valid}
-use Rattle.coder.specs.File.{fileRefusal, statesOf, inputsOf, outputsOf, machineOf, settingOf}
+use mathlib.Core.Bool.{true}
+use mathlib.Core.List.{List, [], _∷_, _++_}
+use lib.ListN.{length, drop}
+use Rattle.mealy.specs.LoopedPair as mealy
+use Rattle.coder.specs.File.{fileRefusal, headerOf, statesOf, inputsOf, machineOf}
+use Rattle.coder.specs.declared.Header.{Header}
+use Rattle.coder.specs.declared.Header.the-variants.{Counts}
+use Rattle.running.specs.Run.{RunPromise}
+use Rattle.running.specs.declared.RunResult.{RunResult}
+use Rattle.running.specs.declared.RunResult as run-result
 use Rattle.values.specs.Window as values
-use Rattle.fitting.specs.Answer.{Right}
+use Rattle.values.specs.declared.LoopedPair.{LoopedPair}
 use Rattle.fitting.specs.declared.Answer.{Answer}
 use Rattle.fitting.specs.declared.Answer.the-variants.{Letter, None, Several}
-use Rattle.decoder.specs.Refusal.{tableSize}
-use Rattle.filling.specs.Table.{EntryAt}
+use Rattle.decoder.specs.Window.{WindowPromise}
+use Rattle.decoder.specs.Table.{TablePromise}
+use Rattle.decoder.specs.declared.WindowResult.{WindowResult}
+use Rattle.decoder.specs.declared.WindowResult.the-variants.{Answered}
+use Rattle.decoder.specs.declared.CountResult.{CountResult}
+use Rattle.decoder.specs.declared.CountResult.the-variants.{Done}
+use Rattle.search.specs.Search.{wanted, SearchPromise}
+use Rattle.search.specs.declared.Verdict.the-variants.{Least, NoDecoder}
+use Rattle.search.specs.declared.SearchResult.{SearchResult}
+use Rattle.search.specs.declared.SearchResult.the-variants.{Found}
+use Rattle.checker.specs.Check.{CheckPromise}
+use Rattle.checker.specs.declared.CheckResult.{CheckResult}
+use Rattle.checker.specs.declared.CheckResult.the-variants.{Checked}
 
 pub data Claim : Type 0 where
-  -- the least window that works
+  -- the reader gives these counts
+  counts : ℕ → ℕ → ℕ → Claim
+  -- the search reports this window
   window : ℕ → ℕ → Claim
-  -- no window works, and this looped pair is valid
-  no-decoder : LoopedPair → Claim
+  -- the search says "no decoder", and the checker says yes to this pair
+  no-decoder : mealy.LoopedPair → Claim
   -- from equal states different letters give different outputs
   different-outputs : Claim
-  -- the answer for the letters of a window with b letters before the present one
-  answer : ℕ → List ℕ → Answer → Claim
+  -- the answer for the letters of a window
+  answer : ℕ → ℕ → List ℕ → Answer → Claim
   -- the decoder table of a window
   table : ℕ → ℕ → List ℕ → Claim
   -- a run: start state, input letters, output letters, end state
   run : ℕ → List ℕ → List ℕ → ℕ → Claim
 
--- What each claim says of a file.
+-- What each claim says of a file; of the calls that write, for lent buffers that are long enough.
 abbrev pub Holds : List ℕ → Claim → Type 0
-Holds f (window b a) = Least FewestLetters (settingOf f) b a
-Holds f (no-decoder p) = Valid (settingOf f) p × ((b a : ℕ) → Works (settingOf f) b a → ⊥)
+Holds f (counts n i o) = (r : Header) → r ≡ headerOf f → r ≡ Counts n i o
+Holds f (window b a) =
+    (before : List ℕ) (r : SearchResult) (after : List ℕ) → wanted ≤ length before → SearchPromise f before r after →
+    (r ≡ Found (Least (values.window b a))) × (after ≡ before)
+Holds f (no-decoder p) =
+    ((before : List ℕ) (r : SearchResult) (after : List ℕ) → wanted ≤ length before → SearchPromise f before r after →
+    (q : LoopedPair) × (r ≡ Found (NoDecoder q))) ×
+    ((r : CheckResult) → CheckPromise f p r → r ≡ Checked true)
 Holds f different-outputs =
     (s i j : ℕ) → s < statesOf f → i < inputsOf f → j < inputsOf f → i ≢ j → machineOf f .out s i ≢ machineOf f .out s j
-Holds f (answer b w v) = Right (settingOf f) w b v
+Holds f (answer b a received v) = (r : WindowResult) → WindowPromise f (values.window b a) received r → r ≡ Answered v
 Holds f (table b a bytes) =
-    (length bytes ≡ tableSize (outputsOf f) (values.window b a)) ×
-    ((k : ℕ) → k < length bytes → EntryAt (settingOf f) (outputsOf f) (values.size (values.window b a)) b k (getD bytes k 0))
-Holds f (run s xs os e) = (outs (machineOf f) s xs ≡ os) × (end (machineOf f) s xs ≡ e)
+    (before : List ℕ) (r : CountResult) (after : List ℕ) → length bytes ≤ length before →
+    TablePromise f (values.window b a) before r after → (r ≡ Done (length bytes)) × (after ≡ bytes ++ drop (length bytes) before)
+Holds f (run s xs os e) =
+    (before : List ℕ) (r : RunResult) (after : List ℕ) → length xs ≤ length before → RunPromise f s xs before r after →
+    (r ≡ run-result.the-variants.Done (length xs) e) × (after ≡ os ++ drop (length xs) before)
 
 pub record Case : Type 0 where
   pub file : List ℕ
   pub claims : List Claim
 
-abbrev pub pair : ℕ → ℕ → List ℕ → LoopedPair
+-- a looped pair of three letters
+abbrev pub pair : ℕ → ℕ → List ℕ → mealy.LoopedPair
 pair s t bytes = record { s = s; t = t; back-loop = 1; lead-in = 0; lead-out = 0; forward-loop = 1; bytes = bytes }
 
 abbrev pub starred : List Case
@@ -54,7 +80,7 @@ starred =
     -- A, running parity
     record {
       file = 1 ∷ 0 ∷ 11 ∷ 2 ∷ 2 ∷ 2 ∷ 0 ∷ 0 ∷ 1 ∷ 1 ∷ 1 ∷ 1 ∷ 0 ∷ 0 ∷ [];
-      claims = window 1 0 ∷ table 1 0 (0 ∷ 1 ∷ 1 ∷ 0 ∷ []) ∷ run 0 (1 ∷ 1 ∷ 0 ∷ []) (1 ∷ 0 ∷ 0 ∷ []) 0 ∷ [];
+      claims = counts 2 2 2 ∷ window 1 0 ∷ table 1 0 (0 ∷ 1 ∷ 1 ∷ 0 ∷ []) ∷ run 0 (1 ∷ 1 ∷ 0 ∷ []) (1 ∷ 0 ∷ 0 ∷ []) 0 ∷ [];
     } ∷
     -- B, one state
     record { file = 1 ∷ 0 ∷ 7 ∷ 1 ∷ 2 ∷ 2 ∷ 0 ∷ 0 ∷ 0 ∷ 1 ∷ []; claims = window 0 0 ∷ [] } ∷
@@ -73,7 +99,7 @@ starred =
     -- G
     record {
       file = 1 ∷ 0 ∷ 19 ∷ 4 ∷ 2 ∷ 6 ∷ 1 ∷ 4 ∷ 1 ∷ 5 ∷ 2 ∷ 0 ∷ 3 ∷ 0 ∷ 2 ∷ 0 ∷ 2 ∷ 1 ∷ 3 ∷ 2 ∷ 3 ∷ 3 ∷ [];
-      claims = answer 0 (0 ∷ 2 ∷ []) (Letter 1) ∷ answer 0 (1 ∷ 2 ∷ []) None ∷ answer 0 (0 ∷ []) Several ∷ [];
+      claims = answer 0 1 (0 ∷ 2 ∷ []) (Letter 1) ∷ answer 0 1 (1 ∷ 2 ∷ []) None ∷ answer 0 0 (0 ∷ []) Several ∷ [];
     } ∷
     -- H
     record { file = 1 ∷ 0 ∷ 11 ∷ 2 ∷ 2 ∷ 2 ∷ 0 ∷ 0 ∷ 0 ∷ 1 ∷ 1 ∷ 0 ∷ 1 ∷ 0 ∷ []; claims = no-decoder (pair 1 1 (0 ∷ 0 ∷ 0 ∷ 1 ∷ 0 ∷ 0 ∷ [])) ∷ [] } ∷

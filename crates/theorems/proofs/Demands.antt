@@ -1,0 +1,212 @@
+-- The three demands hold.
+use mathlib.Core.Path.{_≡_, refl, sym, ap, subst, _∙_}
+use mathlib.Core.Bool.{Bool, true, _&&_}
+use mathlib.Core.List.{List, [], _++_}
+use Prim.Native.Nat.{ℕ, zero, suc, _<_}
+use native.Mathlib.Omega.{arith}
+use lib.ListN.{length, getD, take, drop}
+use lib.Seq.{take-at}
+use lib.Dec.{leb}
+use Rattle.mealy.specs.Machine.{outs, end}
+use Rattle.mealy.specs.Answer.{NoRun, Answers}
+use Rattle.mealy.proofs.Answers.{length-outs, none↔no-run}
+use Rattle.coder.specs.Refusal.{upon, answer}
+use Rattle.coder.specs.File.{fileRefusal, outputsOf, machineOf, settingOf}
+use Rattle.coder.proofs.Refusals.{both-right}
+use Rattle.running.specs.Run.{runRefusal, runRefusalIn, RunPromise}
+use Rattle.running.specs.declared.RunResult as run-result
+use Rattle.values.specs.declared.Window.{Window}
+use Rattle.fitting.specs.Answer.{meaning}
+use Rattle.fitting.specs.declared.Answer.{Answer}
+use Rattle.fitting.specs.declared.Answer.the-variants.{None}
+use Rattle.decoder.specs.Written.{Written}
+use Rattle.decoder.specs.Count.{CountPromise}
+use Rattle.decoder.specs.Refusal.{windowRefusal, stringRefusal, tableSize, tableRefusal}
+use Rattle.decoder.specs.Places.{places}
+use Rattle.decoder.specs.Window.{AnsweredRight, WindowPromise}
+use Rattle.decoder.specs.declared.WindowResult as window-result
+use Rattle.decoder.specs.declared.CountResult.{CountResult}
+use Rattle.decoder.specs.declared.CountResult as count-result
+use Rattle.decoder.proofs.Accepting.{window-accepted}
+use Rattle.search.specs.Search.{searchRefusal, wanted, order, Says, RefusedSearch, SearchPromise}
+use Rattle.search.specs.declared.SearchResult.{SearchResult}
+use Rattle.search.specs.declared.SearchResult as search-result
+use Rattle.search.specs.declared.SearchResult.the-variants.{Found}
+use Rattle.search.specs.declared.Verdict.{Verdict}
+use Rattle.search.specs.declared.Verdict.the-variants.{Least, NoDecoder}
+use Rattle.search.proofs.Determined.{found, no-decoder-exactly}
+use Rattle.checker.specs.Check.{checkRefusal}
+use Rattle.layout.specs.Layout.{resultBytes}
+use Rattle.lowhenita.specs.Host.{roomy, Hosted}
+use Rattle.theorems.specs.Published.{longEnough, givenRun, givenSearch, givenResult}
+use Rattle.theorems.specs.Demands.{Demand1, Demand2, Demand3, Demanded, FromC}
+use Rattle.theorems.proofs.Published.{file-published, run-published, search-published, check-published, window-published, string-published, table-published}
+use Rattle.theorems.proofs.Handing.{search-found, run-handed, search-handed, decode-handed, table-handed, check-handed, window-handed}
+use Rattle.theorems.proofs.RoundTrip.{round-trip}
+use Rattle.theorems.proofs.HostRoundTrip.{host-round-trip}
+
+-- ---- from a promise to what holds upon its refusal
+
+moved : (R : ℕ → Type 0) (D : Type 0) {k k′ : ℕ} → k ≡ k′ → upon k R D → upon k′ R D
+moved R D e = subst (λ (j : ℕ). upon j R D) e
+
+by-answer :
+    {A : Type 0} {r : A} (k : ℕ) (refused : ℕ → A) (done : A) → r ≡ answer k refused done → upon k (λ j. r ≡ refused j) (r ≡ done)
+by-answer zero refused done e = e
+by-answer (suc k) refused done e = e
+
+both-answers :
+    {A B : Type 0} {r : A} {x : B} (k : ℕ) (refused : ℕ → A) (done : A) (stays new : B) → r ≡ answer k refused done →
+    x ≡ answer k (λ j. stays) new → upon k (λ j. (r ≡ refused j) × (x ≡ stays)) ((r ≡ done) × (x ≡ new))
+both-answers zero refused done stays new e d = (e, d)
+both-answers (suc k) refused done stays new e d = (e, d)
+
+count-upon :
+    (k n : ℕ) (Q : ℕ → ℕ → Type 0) (before : List ℕ) (r : CountResult) (after : List ℕ) → CountPromise k n Q before r after →
+    upon k (λ j. (r ≡ count-result.the-variants.Refused j) × (after ≡ before))
+    ((r ≡ count-result.the-variants.Done n) × Written Q n before after)
+count-upon zero n Q before r after p = (p .result, p .bytes)
+count-upon (suc k) n Q before r after p = (p .result, p .bytes)
+
+search-upon :
+    (k : ℕ) (Answered : Type 0) (r : SearchResult) (before after : List ℕ) →
+    upon k (λ j. RefusedSearch j r before after) Answered →
+    upon k (λ j. (r ≡ search-result.the-variants.Refused j) × (after ≡ before)) Answered
+search-upon zero Answered r before after p = p
+search-upon (suc k) Answered r before after p = (p .is, p .stays)
+
+-- ---- lent buffers: one alone, and with the result buffer besides
+
+one-more : (t : Bool) (result : List ℕ) → (t && roomy result) ≡ (t && longEnough (givenResult result))
+one-more t result = ap (λ (x : Bool). t && x) (sym (both-right (roomy result)))
+
+hosted-moved : {k k′ r : ℕ} {Stays Given : Type 0} → k ≡ k′ → Hosted k r Stays Given → Hosted k′ r Stays Given
+hosted-moved {k} {k′} {r} {Stays} {Given} e = subst (λ (j : ℕ). Hosted j r Stays Given) e
+
+pub demand-1 : Demand1
+demand-1 = record {
+  counts = λ f r p. moved _ _ (file-published f) (by-answer (fileRefusal f) _ _ p);
+  entries = λ f file place part p. moved _ _ (file-published f) (by-answer (fileRefusal f) _ _ (p .bytes));
+  run = λ f s xs before r after p.
+      moved _ _ (ap (runRefusal f s xs) (sym (both-right (leb (length xs) (length before)))) ∙ run-published f s xs before [])
+      (both-answers (runRefusalIn f s xs before) _ _ _ _ (p .result) (p .bytes));
+  window = λ f w received r p. moved _ _ (window-published f w received []) p;
+  string = λ f w received before r after p.
+      moved _ _ (string-published f w received before []) (count-upon _ _ _ before r after p);
+  table = λ f w before r after p. moved _ _ (table-published f w before []) (count-upon _ _ _ before r after p);
+  search = λ f before r after p.
+      moved _ _ (ap (searchRefusal f) (sym (both-right (leb wanted (length before)))) ∙ search-published f before [])
+      (search-upon (searchRefusal f (leb wanted (length before))) _ r before after p);
+  check = λ f p r q. moved _ _ (check-published f p []) q;
+  run-from-C = λ f s xs before result r after result′.
+      hosted-moved (ap (runRefusal f s xs) (one-more (leb (length xs) (length before)) result) ∙ run-published f s xs before (givenResult result));
+  search-from-C = λ f before result r after result′.
+      hosted-moved (ap (searchRefusal f) (one-more (leb wanted (length before)) result) ∙ search-published f before (givenResult result));
+  decode-from-C = λ f w received before result r after result′.
+      hosted-moved
+      (ap (stringRefusal f w received) (one-more (leb (places (length received) w) (length before)) result) ∙
+      string-published f w received before (givenResult result));
+  table-from-C = λ f w before result r after result′.
+      hosted-moved
+      (ap (tableRefusal f w) (one-more (leb (tableSize (outputsOf f) w) (length before)) result) ∙
+      table-published f w before (givenResult result));
+  check-from-C = λ f p result r result′. hosted-moved (ap (checkRefusal f p) (one-more true result) ∙ check-published f p (givenResult result));
+  window-from-C = λ f w received result r result′.
+      hosted-moved (ap (windowRefusal f w received) (one-more true result) ∙ window-published f w received (givenResult result));
+}
+
+-- ---- demand 2
+
+run-done :
+    (f : List ℕ) (s : ℕ) (xs before : List ℕ) (n e : ℕ) (after : List ℕ) →
+    RunPromise f s xs before (run-result.the-variants.Done n e) after →
+    (n ≡ length xs) × (e ≡ end (machineOf f) s xs) × (take n after ≡ outs (machineOf f) s xs)
+run-done f s xs before n e after p = go (runRefusalIn f s xs before) (p .result) (p .bytes)
+  where
+    o : List ℕ
+    o = outs (machineOf f) s xs
+
+    go :
+        (k : ℕ) →
+        run-result.the-variants.Done n e ≡
+        answer k (λ j. run-result.the-variants.Refused j) (run-result.the-variants.Done (length xs) (end (machineOf f) s xs)) →
+        after ≡ answer k (λ j. before) (o ++ drop (length xs) before) →
+        (n ≡ length xs) × (e ≡ end (machineOf f) s xs) × (take n after ≡ o)
+    go zero d b =
+        let q : n ≡ length xs = cc in
+        (q, (cc), rw (b, q) (take-at o (drop (length xs) before) (length xs) (length-outs (machineOf f) s xs)))
+    go (suc k) d b = let z : _≡_ {A = ℕ} 0 1 = cc in absurd (omega arith)
+
+-- a window that was answered was not refused
+window-answered :
+    (f : List ℕ) (w : Window) (received : List ℕ) (v : Answer) →
+    WindowPromise f w received (window-result.the-variants.Answered v) →
+    (windowRefusal f w received true ≡ 0) × Answers (settingOf f) received (w .before) (meaning v)
+window-answered f w received v = go (windowRefusal f w received true) refl
+  where
+    go :
+        (k : ℕ) → windowRefusal f w received true ≡ k →
+        upon k (λ j. window-result.the-variants.Answered v ≡ window-result.the-variants.Refused j)
+        (AnsweredRight f w received (window-result.the-variants.Answered v)) →
+        (windowRefusal f w received true ≡ 0) × Answers (settingOf f) received (w .before) (meaning v)
+    go zero e p =
+        let d = p .is in
+        let q : v ≡ p .answer = cc in
+        (e, rw q (p .right))
+    go (suc k) e p = let z : _≡_ {A = ℕ} 0 1 = cc in absurd (omega arith)
+
+count-done :
+    (k n : ℕ) (Q : ℕ → ℕ → Type 0) (before : List ℕ) (m : ℕ) (after : List ℕ) →
+    CountPromise k n Q before (count-result.the-variants.Done m) after → (j : ℕ) → j < m → Q j (getD after j 0)
+count-done zero n Q before m after p j l =
+    let d = p .result in
+    let q : m ≡ n = cc in
+    p .bytes .is j (rw q at l)
+count-done (suc k) n Q before m after p j l = let d = p .result in let z : _≡_ {A = ℕ} 0 1 = cc in absurd (omega arith)
+
+pub demand-2 : Demand2
+demand-2 = record {
+  run = run-done;
+  window = λ f w received v p. window-answered f w received v p .1;
+  none = λ f w received p.
+      let h = window-answered f w received None p in
+      none↔no-run (settingOf f) received (w .before) (omega (arith, window-accepted f w received true (h .0) .long)) .0 (h .1);
+  string = λ f w received before n after p. count-done _ _ _ before n after p;
+  table = λ f w before n after p. count-done _ _ _ before n after p;
+  back = round-trip;
+  back-from-C = host-round-trip;
+}
+
+-- ---- demand 3
+
+demanded : (f before : List ℕ) (v : Verdict) (after : List ℕ) → SearchPromise f before (Found v) after → Demanded f v after
+demanded f before v after p =
+    let says : Says order (settingOf f) v before after = found f before v after p .says in
+    record {
+      exactly = no-decoder-exactly f before v after p;
+      valid = λ q e. let s : Says order (settingOf f) (NoDecoder q) before after = rw e at says in s .valid;
+      turned = λ q e. let s : Says order (settingOf f) (NoDecoder q) before after = rw e at says in s .turned;
+      works = λ w e. let s : Says order (settingOf f) (Least w) before after = rw e at says in s .least .works;
+      fewest = λ w e b a h. let s : Says order (settingOf f) (Least w) before after = rw e at says in s .least .least b a h .fewer;
+      tie = λ w e b a h. let s : Says order (settingOf f) (Least w) before after = rw e at says in s .least .least b a h .tie;
+    }
+
+pub demand-3 : Demand3
+demand-3 = record {
+  search = demanded;
+  search-from-C = λ f before result after result′ h.
+      let g = search-found f before result after result′ h in
+      (g .verdict, g .fields, demanded f before (g .verdict) after (g .promised));
+}
+
+-- ---- the calls from C
+
+pub from-c : FromC
+from-c = record {
+  run = λ f s xs before result r after result′ long h. run-handed result long f s xs before r after result′ h;
+  search = λ f before result r after result′ long h. search-handed result long f before r after result′ h;
+  decode = λ f w received before result r after result′ long h. decode-handed result long f w received before r after result′ h;
+  table = λ f w before result r after result′ long h. table-handed result long f w before r after result′ h;
+  check = λ f p result r result′ long h. check-handed result long f p r result′ h;
+  window = λ f w received result r result′ long h. window-handed result long f w received r result′ h;
+}

@@ -1,0 +1,138 @@
+-- The refusal of each call is the first number of the published list that applies to what the call is given.
+use mathlib.Core.Path.{_≡_, refl, sym, ap, _∙_}
+use mathlib.Core.Bool.{Bool, true, false, not, _&&_}
+use mathlib.Core.List.{List}
+use Prim.Native.Nat.{ℕ, zero, suc, _+_, _-_, _*_, _≤_}
+use native.Mathlib.Decide.{ℕ-discrete}
+use native.Mathlib.Omega.{arith}
+use lib.ListN.{length, length-drop}
+use lib.Dec.{ltb, leb, eqb}
+use borrow.Author.Tests.{eq-eqb, ne-eqb, ltb-false, eqb-true}
+use Rattle.mealy.specs.LoopedPair.{LoopedPair, letters}
+use Rattle.coder.specs.Refusal.{refuse, first, allBelow}
+use Rattle.coder.specs.Limits.{maxSide}
+use Rattle.coder.specs.File.{versionOf, countField, statesOf, inputsOf, outputsOf, entriesOf, inRange, entryInRange, entriesRefusal, fileRefusal}
+use Rattle.coder.proofs.Refusals.{both-right}
+use Rattle.running.specs.Run.{runRefusal}
+use Rattle.values.specs.Window.{size}
+use Rattle.values.specs.declared.Window.{Window}
+use Rattle.filling.specs.Table.{maxTable}
+use Rattle.decoder.specs.Refusal.{sidesRefusal, windowRefusal, stringRefusal, tableSize, tableRefusal}
+use Rattle.search.specs.Search.{searchRefusal}
+use Rattle.checker.specs.Check.{checkRefusal}
+use Rattle.theorems.specs.Published.{Bytes, longEnough, refusalOf, givenFile, givenRun, givenSearch, givenCheck, givenWindow, givenString, givenTable}
+
+-- ---- numbers 1 to 6
+
+three-first :
+    (a b c : Bool) (x : ℕ) → refuse a 4 (refuse b 5 (refuse c 6 x)) ≡ first (refuse a 4 (refuse b 5 (refuse c 6 0))) x
+three-first true b c x = refl
+three-first false true c x = refl
+three-first false false true x = refl
+three-first false false false x = refl
+
+first-zero : (k : ℕ) → first k 0 ≡ k
+first-zero zero = refl
+first-zero (suc k) = refl
+
+first-first : (a b x : ℕ) → first (first a b) x ≡ first a (first b x)
+first-first zero b x = refl
+first-first (suc a) b x = refl
+
+module _ (f : List ℕ) where
+  abbrev entries : ℕ
+  entries = statesOf f * inputsOf f
+
+  -- past numbers 1 to 3, the count field says whether the entry bytes are of the right number
+  size-test :
+      6 ≤ length f → countField f ≡ length f - 3 →
+      eqb (countField f) (3 + 2 * entries) ≡ eqb (length (entriesOf f)) (2 * entries)
+  size-test l e =
+      let d = length-drop 6 f in
+      elim (ℕ-discrete (length (entriesOf f)) (2 * entries)) [
+        | yes p ↦ rw (eq-eqb (length (entriesOf f)) (2 * entries) p) (eq-eqb (countField f) (3 + 2 * entries) (omega arith))
+        | no p ↦
+            rw (ne-eqb (length (entriesOf f)) (2 * entries) p)
+            (ne-eqb (countField f) (3 + 2 * entries) (λ q. p (omega arith)))
+      ]
+
+  abbrev fileFirst : ℕ → ℕ
+  fileFirst x =
+      refuse (ltb (length f) 6) 1
+      (refuse (not (eqb (versionOf f) 1)) 2
+      (refuse (not (eqb (countField f) (length f - 3))) 3
+      (refuse (not (inRange (statesOf f) (inputsOf f) (outputsOf f))) 4
+      (refuse (not (eqb (countField f) (3 + 2 * entries))) 5
+      (refuse (not (allBelow entries (entryInRange (statesOf f) (outputsOf f) (entriesOf f)))) 6
+      x)))))
+
+  file-first : (x : ℕ) → fileFirst x ≡ first (fileRefusal f) x
+  unfolding fileRefusal entriesRefusal
+  file-first x = go (ltb (length f) 6) (eqb (versionOf f) 1) (eqb (countField f) (length f - 3)) refl refl refl
+    where
+      go :
+          (a b c : Bool) → ltb (length f) 6 ≡ a → eqb (versionOf f) 1 ≡ b → eqb (countField f) (length f - 3) ≡ c →
+          fileFirst x ≡ first (fileRefusal f) x
+      go true b c p q r = rw p
+      go false false c p q r = rw (p, q)
+      go false true false p q r = rw (p, q, r)
+      go false true true p q r =
+          rw (p, q, r, size-test (ltb-false _ _ p) (eqb-true _ _ r))
+          (three-first (not (inRange (statesOf f) (inputsOf f) (outputsOf f))) (not (eqb (length (entriesOf f)) (2 * entries)))
+          (not (allBelow entries (entryInRange (statesOf f) (outputsOf f) (entriesOf f)))) x)
+
+  pub file-published : fileRefusal f ≡ refusalOf (givenFile f)
+  file-published = sym (file-first 0 ∙ first-zero (fileRefusal f))
+
+  -- ---- the calls
+
+  pub run-published :
+      (s : ℕ) (xs before : List ℕ) (more : List Bytes) →
+      runRefusal f s xs (longEnough (givenRun f s xs before more .buffers)) ≡ refusalOf (givenRun f s xs before more)
+  unfolding runRefusal
+  run-published s xs before more = sym (rw (both-right (ltb s (statesOf f))) (file-first _))
+
+  pub search-published :
+      (before : List ℕ) (more : List Bytes) →
+      searchRefusal f (longEnough (givenSearch f before more .buffers)) ≡ refusalOf (givenSearch f before more)
+  unfolding searchRefusal
+  search-published before more = sym (file-first _)
+
+  pub check-published :
+      (p : LoopedPair) (more : List Bytes) → checkRefusal f p (longEnough more) ≡ refusalOf (givenCheck f p more)
+  unfolding checkRefusal
+  check-published p more = sym (rw (both-right (ltb (p .t) (statesOf f)), both-right (eqb (length (p .bytes)) (2 * letters p))) (file-first _))
+
+  -- 1 to 6 and 8, in front of others
+  sides-first :
+      (w : Window) (x : ℕ) →
+      fileFirst (refuse (not (leb (w .before) maxSide && (leb (w .after) maxSide && true))) 8 x) ≡ first (sidesRefusal f w) x
+  unfolding sidesRefusal
+  sides-first w x =
+      rw (both-right (leb (w .after) maxSide))
+      (file-first _
+      ∙ ap (first (fileRefusal f)) (eight (leb (w .before) maxSide && leb (w .after) maxSide))
+      ∙ sym (first-first (fileRefusal f) _ x))
+    where
+      eight : (t : Bool) → refuse (not t) 8 x ≡ first (refuse (not t) 8 0) x
+      eight true = refl
+      eight false = refl
+
+  pub window-published :
+      (w : Window) (received : List ℕ) (more : List Bytes) →
+      windowRefusal f w received (longEnough more) ≡ refusalOf (givenWindow f w received more)
+  unfolding windowRefusal
+  window-published w received more = sym (rw (both-right (eqb (length received) (size w))) (sides-first w _))
+
+  pub string-published :
+      (w : Window) (received before : List ℕ) (more : List Bytes) →
+      stringRefusal f w received (longEnough (givenString f w received before more .buffers)) ≡
+      refusalOf (givenString f w received before more)
+  unfolding stringRefusal
+  string-published w received before more = sym (sides-first w _)
+
+  pub table-published :
+      (w : Window) (before : List ℕ) (more : List Bytes) →
+      tableRefusal f w (longEnough (givenTable f w before more .buffers)) ≡ refusalOf (givenTable f w before more)
+  unfolding tableRefusal
+  table-published w before more = sym (rw (both-right (leb (tableSize (outputsOf f) w) maxTable)) (sides-first w _))

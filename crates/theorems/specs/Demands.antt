@@ -1,0 +1,198 @@
+-- The three demands, one record each, over the promises of the calls alone. A buyer begins here: `demand-1`, `demand-2`, `demand-3` and
+-- `from-c` of proofs/Demands.antt prove these records, and each call's contract is that it meets its promise for all arguments.
+use Prim.Native.Nat.{ℕ, _+_, _≤_, _<_}
+use mathlib.Core.Path.{_≡_}
+use mathlib.Core.Logic.{_↔_}
+use mathlib.Core.List.{List, [], _++_}
+use lib.ListN.{length, getD, take, drop}
+use Rattle.mealy.specs.Machine.{outs, end}
+use Rattle.mealy.specs.Window.{Works}
+use Rattle.mealy.specs.Answer.{NoRun, Answers}
+use Rattle.mealy.specs.LoopedPair as mealy
+use Rattle.mealy.specs.LoopedPair.{Valid, TurnedRuns}
+use Rattle.coder.specs.Refusal.{upon}
+use Rattle.coder.specs.File.{statesOf, inputsOf, outputsOf, entriesOf, headerOf, EntriesPart, machineOf, settingOf}
+use Rattle.coder.specs.declared.Header.{Header}
+use Rattle.coder.specs.declared.Header as header-result
+use Rattle.running.specs.Run.{RunPromise}
+use Rattle.running.specs.declared.RunResult.{RunResult}
+use Rattle.running.specs.declared.RunResult as run-result
+use Rattle.values.specs.Window.{size}
+use Rattle.values.specs.Pair.{pairOf}
+use Rattle.values.specs.declared.Window.{Window}
+use Rattle.values.specs.declared.LoopedPair.{LoopedPair}
+use Rattle.fitting.specs.Answer.{meaning, RightByte}
+use Rattle.fitting.specs.declared.Answer.{Answer}
+use Rattle.fitting.specs.declared.Answer.the-variants.{None}
+use Rattle.filling.specs.Table.{windowAt}
+use Rattle.decoder.specs.Written.{Written}
+use Rattle.decoder.specs.Refusal.{tableSize}
+use Rattle.decoder.specs.Window.{AnsweredRight, WindowPromise}
+use Rattle.decoder.specs.Places.{places, ByteAt, StringPromise}
+use Rattle.decoder.specs.Table.{EntryOf, TablePromise}
+use Rattle.decoder.specs.declared.WindowResult.{WindowResult}
+use Rattle.decoder.specs.declared.WindowResult as window-result
+use Rattle.decoder.specs.declared.CountResult.{CountResult}
+use Rattle.decoder.specs.declared.CountResult as count-result
+use Rattle.search.specs.Search.{order, IsNoDecoder, FoundVerdict, SearchPromise}
+use Rattle.search.specs.declared.Verdict.{Verdict}
+use Rattle.search.specs.declared.Verdict.the-variants.{Least, NoDecoder}
+use Rattle.search.specs.declared.SearchResult.{SearchResult}
+use Rattle.search.specs.declared.SearchResult as search-result
+use Rattle.checker.specs.Check.{CheckedRight, CheckPromise}
+use Rattle.checker.specs.declared.CheckResult.{CheckResult}
+use Rattle.checker.specs.declared.CheckResult as check-result
+use Rattle.layout.specs.Layout.{resultBytes, withFields, verdictFields}
+use Rattle.lowhenita.specs.Host.{Hosted, BothStay, RunGiven, RunHosted, VerdictGiven, SearchHosted, BytesGiven, DecodeHosted, TableHosted, JudgementGiven, CheckHosted, AnswerGiven, WindowHosted}
+use Rattle.theorems.specs.Published.{Given, refusalOf, givenFile, givenRun, givenSearch, givenCheck, givenWindow, givenString, givenTable, givenResult}
+use Rattle.theorems.specs.RoundTrip.{LettersComeBack, LettersComeBackFromC}
+use Rattle.theorems.specs.Handed.{Handed, laidRun, laidSearch, laidCount, laidCheck, laidWindow}
+
+-- ---- demand 1: accepted and answered, or refused by the first number of the published list that applies, with nothing changed
+
+-- What holds of a call that is given g: Refused k, k being the first number that applies, or Answered where none does.
+abbrev pub Judged : Given → (ℕ → Type 0) → Type 0 → Type 0
+Judged g Refused Answered = upon (refusalOf g) Refused Answered
+
+-- For each call: a result that it promises is its refusal by that number, with every lent byte as it was, or its stated answer. The
+-- call that hands entries back has an empty part for a number.
+pub record Demand1 : Type 0 where
+  pub counts :
+      (f : List ℕ) (r : Header) → r ≡ headerOf f →
+      Judged (givenFile f) (λ k. r ≡ header-result.the-variants.Refused k)
+      (r ≡ header-result.the-variants.Counts (statesOf f) (inputsOf f) (outputsOf f))
+  pub entries :
+      (f : List ℕ) (file place : ℕ × ℕ) (part : List ℕ) → EntriesPart f file part place →
+      Judged (givenFile f) (λ k. part ≡ []) (part ≡ entriesOf f)
+  pub run :
+      (f : List ℕ) (s : ℕ) (xs before : List ℕ) (r : RunResult) (after : List ℕ) → RunPromise f s xs before r after →
+      Judged (givenRun f s xs before []) (λ k. (r ≡ run-result.the-variants.Refused k) × (after ≡ before))
+      ((r ≡ run-result.the-variants.Done (length xs) (end (machineOf f) s xs)) ×
+      (after ≡ outs (machineOf f) s xs ++ drop (length xs) before))
+  pub window :
+      (f : List ℕ) (w : Window) (received : List ℕ) (r : WindowResult) → WindowPromise f w received r →
+      Judged (givenWindow f w received []) (λ k. r ≡ window-result.the-variants.Refused k) (AnsweredRight f w received r)
+  pub string :
+      (f : List ℕ) (w : Window) (received before : List ℕ) (r : CountResult) (after : List ℕ) →
+      StringPromise f w received before r after →
+      Judged (givenString f w received before []) (λ k. (r ≡ count-result.the-variants.Refused k) × (after ≡ before))
+      ((r ≡ count-result.the-variants.Done (places (length received) w)) ×
+      Written (ByteAt (settingOf f) received w) (places (length received) w) before after)
+  pub table :
+      (f : List ℕ) (w : Window) (before : List ℕ) (r : CountResult) (after : List ℕ) → TablePromise f w before r after →
+      Judged (givenTable f w before []) (λ k. (r ≡ count-result.the-variants.Refused k) × (after ≡ before))
+      ((r ≡ count-result.the-variants.Done (tableSize (outputsOf f) w)) ×
+      Written (EntryOf f w) (tableSize (outputsOf f) w) before after)
+  pub search :
+      (f before : List ℕ) (r : SearchResult) (after : List ℕ) → SearchPromise f before r after →
+      Judged (givenSearch f before []) (λ k. (r ≡ search-result.the-variants.Refused k) × (after ≡ before))
+      (FoundVerdict order (settingOf f) r before after)
+  pub check :
+      (f : List ℕ) (p : mealy.LoopedPair) (r : CheckResult) → CheckPromise f p r →
+      Judged (givenCheck f p []) (λ k. r ≡ check-result.the-variants.Refused k) (CheckedRight f p r)
+  -- from C the number is returned, and there is the result buffer besides
+  pub run-from-C :
+      (f : List ℕ) (s : ℕ) (xs before result : List ℕ) (r : ℕ) (after result′ : List ℕ) →
+      RunHosted f s xs before result r after result′ →
+      Hosted (refusalOf (givenRun f s xs before (givenResult result))) r (BothStay before result after result′)
+      (RunGiven f s xs before result after result′)
+  pub search-from-C :
+      (f before result : List ℕ) (r : ℕ) (after result′ : List ℕ) → SearchHosted f before result r after result′ →
+      Hosted (refusalOf (givenSearch f before (givenResult result))) r (BothStay before result after result′)
+      (VerdictGiven (settingOf f) before result after result′)
+  pub decode-from-C :
+      (f : List ℕ) (w : Window) (received before result : List ℕ) (r : ℕ) (after result′ : List ℕ) →
+      DecodeHosted f w received before result r after result′ →
+      Hosted (refusalOf (givenString f w received before (givenResult result))) r (BothStay before result after result′)
+      (BytesGiven (places (length received) w) (ByteAt (settingOf f) received w) before result after result′)
+  pub table-from-C :
+      (f : List ℕ) (w : Window) (before result : List ℕ) (r : ℕ) (after result′ : List ℕ) →
+      TableHosted f w before result r after result′ →
+      Hosted (refusalOf (givenTable f w before (givenResult result))) r (BothStay before result after result′)
+      (BytesGiven (tableSize (outputsOf f) w) (EntryOf f w) before result after result′)
+  pub check-from-C :
+      (f : List ℕ) (p : mealy.LoopedPair) (result : List ℕ) (r : ℕ) (result′ : List ℕ) → CheckHosted f p result r result′ →
+      Hosted (refusalOf (givenCheck f p (givenResult result))) r (result′ ≡ result) (JudgementGiven f p result result′)
+  pub window-from-C :
+      (f : List ℕ) (w : Window) (received result : List ℕ) (r : ℕ) (result′ : List ℕ) →
+      WindowHosted f w received result r result′ →
+      Hosted (refusalOf (givenWindow f w received (givenResult result))) r (result′ ≡ result) (AnswerGiven f w received result result′)
+
+-- ---- demand 2: the machine of the table runs; the answer goes by what fits; letters come back
+
+pub record Demand2 : Type 0 where
+  -- first sentence: outputs and end state are those of the file's machine
+  pub run :
+      (f : List ℕ) (s : ℕ) (xs before : List ℕ) (n e : ℕ) (after : List ℕ) →
+      RunPromise f s xs before (run-result.the-variants.Done n e) after →
+      (n ≡ length xs) × (e ≡ end (machineOf f) s xs) × (take n after ≡ outs (machineOf f) s xs)
+  -- second sentence: of one window, of each place of a string, of each index of a table
+  pub window :
+      (f : List ℕ) (w : Window) (received : List ℕ) (v : Answer) →
+      WindowPromise f w received (window-result.the-variants.Answered v) → Answers (settingOf f) received (w .before) (meaning v)
+  pub none :
+      (f : List ℕ) (w : Window) (received : List ℕ) → WindowPromise f w received (window-result.the-variants.Answered None) →
+      NoRun (settingOf f) received
+  pub string :
+      (f : List ℕ) (w : Window) (received before : List ℕ) (n : ℕ) (after : List ℕ) →
+      StringPromise f w received before (count-result.the-variants.Done n) after → (k : ℕ) → k < n →
+      RightByte (settingOf f) (take (size w) (drop k received)) (w .before) (getD after k 0)
+  pub table :
+      (f : List ℕ) (w : Window) (before : List ℕ) (n : ℕ) (after : List ℕ) →
+      TablePromise f w before (count-result.the-variants.Done n) after → (k : ℕ) → k < n →
+      RightByte (settingOf f) (windowAt (outputsOf f) (size w) k) (w .before) (getD after k 0)
+  -- third sentence
+  pub back : LettersComeBack
+  pub back-from-C : LettersComeBackFromC
+
+-- ---- demand 3: the least window of all, or none of any size, with a looped pair
+
+-- What is demanded of a verdict on a file, the letters of a looped pair lying in the buffer.
+pub record Demanded (f : List ℕ) (v : Verdict) (buffer : List ℕ) : Type 0 where
+  -- first sentence
+  pub exactly : IsNoDecoder v ↔ ((b a : ℕ) → Works (settingOf f) b a → ⊥)
+  -- second sentence: the pair is valid, and its two runs are as demanded for every k and every m
+  pub valid : (p : LoopedPair) → v ≡ NoDecoder p → Valid (settingOf f) (pairOf p buffer)
+  pub turned : (p : LoopedPair) → v ≡ NoDecoder p → (k m : ℕ) → TurnedRuns (settingOf f) (pairOf p buffer) k m
+  -- third sentence: the window works; every other has at least as many letters and, of equally many, at least as much lookahead
+  pub works : (w : Window) → v ≡ Least w → Works (settingOf f) (w .before) (w .after)
+  pub fewest : (w : Window) → v ≡ Least w → (b a : ℕ) → Works (settingOf f) b a → w .before + 1 + w .after ≤ b + 1 + a
+  pub tie :
+      (w : Window) → v ≡ Least w → (b a : ℕ) → Works (settingOf f) b a → w .before + 1 + w .after ≡ b + 1 + a → w .after ≤ a
+
+pub record Demand3 : Type 0 where
+  pub search :
+      (f before : List ℕ) (v : Verdict) (after : List ℕ) → SearchPromise f before (search-result.the-variants.Found v) after →
+      Demanded f v after
+  -- a search from C that returns 0 has such a verdict in the fields of its result
+  pub search-from-C :
+      (f before result after result′ : List ℕ) → SearchHosted f before result 0 after result′ →
+      (v : Verdict) × (result′ ≡ withFields result (verdictFields v)) × Demanded f v after
+
+-- ---- the calls from C
+
+-- With a result buffer that is long enough, what a call from C gives is what the library's own call gives, so that all that is demanded
+-- of the one is had from the other.
+pub record FromC : Type 0 where
+  pub run :
+      (f : List ℕ) (s : ℕ) (xs before result : List ℕ) (r : ℕ) (after result′ : List ℕ) → resultBytes ≤ length result →
+      RunHosted f s xs before result r after result′ →
+      Handed (λ own. RunPromise f s xs before own after) laidRun result r result′
+  pub search :
+      (f before result : List ℕ) (r : ℕ) (after result′ : List ℕ) → resultBytes ≤ length result →
+      SearchHosted f before result r after result′ →
+      Handed (λ own. SearchPromise f before own after) laidSearch result r result′
+  pub decode :
+      (f : List ℕ) (w : Window) (received before result : List ℕ) (r : ℕ) (after result′ : List ℕ) → resultBytes ≤ length result →
+      DecodeHosted f w received before result r after result′ →
+      Handed (λ own. StringPromise f w received before own after) laidCount result r result′
+  pub table :
+      (f : List ℕ) (w : Window) (before result : List ℕ) (r : ℕ) (after result′ : List ℕ) → resultBytes ≤ length result →
+      TableHosted f w before result r after result′ →
+      Handed (λ own. TablePromise f w before own after) laidCount result r result′
+  pub check :
+      (f : List ℕ) (p : mealy.LoopedPair) (result : List ℕ) (r : ℕ) (result′ : List ℕ) → resultBytes ≤ length result →
+      CheckHosted f p result r result′ → Handed (CheckPromise f p) laidCheck result r result′
+  pub window :
+      (f : List ℕ) (w : Window) (received result : List ℕ) (r : ℕ) (result′ : List ℕ) → resultBytes ≤ length result →
+      WindowHosted f w received result r result′ → Handed (WindowPromise f w received) laidWindow result r result′

@@ -1,0 +1,186 @@
+-- The published list of refusals, once for all calls: its numbers in checking order and when each applies (document 01, "Numbers of
+-- refusal, in checking order"); and what each call is given.
+use Prim.Native.Nat.{ℕ, _+_, _-_, _*_}
+use mathlib.Core.Bool.{Bool, true, not, _&&_}
+use mathlib.Core.List.{List, [], _∷_}
+use lib.ListN.{length}
+use lib.Dec.{ltb, leb, eqb}
+use Rattle.mealy.specs.LoopedPair.{LoopedPair, letters}
+use Rattle.coder.specs.Refusal.{refuse, allBelow, lettersBelow}
+use Rattle.coder.specs.Limits.{maxSide}
+use Rattle.coder.specs.File.{versionOf, countField, statesOf, inputsOf, outputsOf, entriesOf, inRange, entryInRange}
+use Rattle.values.specs.Window.{size}
+use Rattle.values.specs.declared.Window.{Window}
+use Rattle.filling.specs.Table.{maxTable}
+use Rattle.decoder.specs.Refusal.{tableSize}
+use Rattle.decoder.specs.Places.{places}
+use Rattle.search.specs.Search.{wanted}
+use Rattle.layout.specs.Layout.{resultBytes}
+
+-- So many bytes there are, and so many there are to be.
+pub record Bytes : Type 0 where
+  pub has : ℕ
+  pub wants : ℕ
+
+-- What a call is given. A list is empty where the call is given nothing of its sort: no number about that applies then.
+pub record Given : Type 0 where
+  pub file : List ℕ
+  -- start states
+  pub starts : List ℕ
+  -- sides of a window
+  pub sides : List ℕ
+  -- letters of a single window, bytes of a looped pair
+  pub counted : List Bytes
+  -- windows whose table is to be filled
+  pub tables : List Window
+  -- lent buffers that are written
+  pub buffers : List Bytes
+  -- input letters
+  pub inputs : List ℕ
+  -- received letters
+  pub received : List ℕ
+
+abbrev pub sidesSmall : List ℕ → Bool
+sidesSmall [] = true
+sidesSmall (x ∷ xs) = leb x maxSide && sidesSmall xs
+
+abbrev pub numbersRight : List Bytes → Bool
+numbersRight [] = true
+numbersRight (b ∷ bs) = eqb (b .has) (b .wants) && numbersRight bs
+
+abbrev pub tablesSmall : ℕ → List Window → Bool
+tablesSmall o [] = true
+tablesSmall o (w ∷ ws) = leb (tableSize o w) maxTable && tablesSmall o ws
+
+abbrev pub longEnough : List Bytes → Bool
+longEnough [] = true
+longEnough (b ∷ bs) = leb (b .wants) (b .has) && longEnough bs
+
+-- A number of the list, and whether it applies.
+pub record Rule : Type 0 where
+  pub number : ℕ
+  pub applies : Bool
+
+abbrev pub published : Given → List Rule
+published g =
+    let f = g .file in
+    record { number = 1; applies = ltb (length f) 6 } ∷
+    record { number = 2; applies = not (eqb (versionOf f) 1) } ∷
+    record { number = 3; applies = not (eqb (countField f) (length f - 3)) } ∷
+    record { number = 4; applies = not (inRange (statesOf f) (inputsOf f) (outputsOf f)) } ∷
+    record { number = 5; applies = not (eqb (countField f) (3 + 2 * (statesOf f * inputsOf f))) } ∷
+    record {
+      number = 6;
+      applies = not (allBelow (statesOf f * inputsOf f) (entryInRange (statesOf f) (outputsOf f) (entriesOf f)));
+    } ∷
+    record { number = 7; applies = not (lettersBelow (statesOf f) (g .starts)) } ∷
+    record { number = 8; applies = not (sidesSmall (g .sides)) } ∷
+    record { number = 9; applies = not (numbersRight (g .counted)) } ∷
+    record { number = 10; applies = not (tablesSmall (outputsOf f) (g .tables)) } ∷
+    record { number = 11; applies = not (longEnough (g .buffers)) } ∷
+    record { number = 12; applies = not (lettersBelow (inputsOf f) (g .inputs)) } ∷
+    record { number = 13; applies = not (lettersBelow (outputsOf f) (g .received)) } ∷
+    []
+
+-- The number of the first rule of a list that applies; 0 where none does.
+abbrev pub firstNumber : List Rule → ℕ
+firstNumber [] = 0
+firstNumber (r ∷ rs) = refuse (r .applies) (r .number) (firstNumber rs)
+
+abbrev pub refusalOf : Given → ℕ
+refusalOf g = firstNumber (published g)
+
+-- ---- what each call is given; `more` has the lent buffers that a call from C has besides
+
+-- the file alone
+abbrev pub givenFile : List ℕ → Given
+givenFile f =
+    record { file = f; starts = []; sides = []; counted = []; tables = []; buffers = []; inputs = []; received = [] }
+
+-- the coder run: one output letter for each input letter
+abbrev pub givenRun : List ℕ → ℕ → List ℕ → List ℕ → List Bytes → Given
+givenRun f s xs before more =
+    record {
+      file = f;
+      starts = s ∷ [];
+      sides = [];
+      counted = [];
+      tables = [];
+      buffers = record { has = length before; wants = length xs } ∷ more;
+      inputs = xs;
+      received = [];
+    }
+
+-- the window search: a buffer for a looped pair's letters, whatever the verdict
+abbrev pub givenSearch : List ℕ → List ℕ → List Bytes → Given
+givenSearch f before more =
+    record {
+      file = f;
+      starts = [];
+      sides = [];
+      counted = [];
+      tables = [];
+      buffers = record { has = length before; wants = wanted } ∷ more;
+      inputs = [];
+      received = [];
+    }
+
+-- the checker: two bytes for each letter
+abbrev pub givenCheck : List ℕ → LoopedPair → List Bytes → Given
+givenCheck f p more =
+    record {
+      file = f;
+      starts = p .s ∷ p .t ∷ [];
+      sides = [];
+      counted = record { has = length (p .bytes); wants = 2 * letters p } ∷ [];
+      tables = [];
+      buffers = more;
+      inputs = p .bytes;
+      received = [];
+    }
+
+-- one window
+abbrev pub givenWindow : List ℕ → Window → List ℕ → List Bytes → Given
+givenWindow f w received more =
+    record {
+      file = f;
+      starts = [];
+      sides = w .before ∷ w .after ∷ [];
+      counted = record { has = length received; wants = size w } ∷ [];
+      tables = [];
+      buffers = more;
+      inputs = [];
+      received = received;
+    }
+
+-- a string: one byte for each place with a full window
+abbrev pub givenString : List ℕ → Window → List ℕ → List ℕ → List Bytes → Given
+givenString f w received before more =
+    record {
+      file = f;
+      starts = [];
+      sides = w .before ∷ w .after ∷ [];
+      counted = [];
+      tables = [];
+      buffers = record { has = length before; wants = places (length received) w } ∷ more;
+      inputs = [];
+      received = received;
+    }
+
+-- a decoder table
+abbrev pub givenTable : List ℕ → Window → List ℕ → List Bytes → Given
+givenTable f w before more =
+    record {
+      file = f;
+      starts = [];
+      sides = w .before ∷ w .after ∷ [];
+      counted = [];
+      tables = w ∷ [];
+      buffers = record { has = length before; wants = tableSize (outputsOf f) w } ∷ more;
+      inputs = [];
+      received = [];
+    }
+
+-- the result buffer of a call from C
+abbrev pub givenResult : List ℕ → List Bytes
+givenResult result = record { has = length result; wants = resultBytes } ∷ []
