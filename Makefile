@@ -1,10 +1,11 @@
 # make test: the gate. make report: builds the program and runs it on an example. make lib: the static library for a host in C, with
-# include/lowhenita.h. make examples: the example host, run on an example. make install PREFIX=..: library, header, program, manual
-# page. make bench: the library beside plain C. make clean: removes what was built.
-.PHONY: test report lib examples install bench clean
+# include/lowhenita.h. make examples: the example host, run on an example. make target/lowhenita.pc: the pkg-config file, nothing is
+# proved for it. make install PREFIX=..: library, header, program, manual page, pkg-config file. make bench: the library beside plain C.
+# make clean: removes what was built.
+.PHONY: test report lib examples target/lowhenita.pc install bench clean
 
 PREFIX = /usr/local
-VERSION = 1.0
+VERSION := $(shell sed -n 's/^\#define LOWHENITA_VERSION "\(.*\)"$$/\1/p' include/lowhenita.h)
 CC = gcc
 
 test:
@@ -27,14 +28,19 @@ examples: lib
 	$(CC) -std=c99 -Wall -Wextra -Werror -O2 -Iinclude examples/decode.c target/staticlib/liblowhenita.a -o target/decode
 	target/decode examples/A.coder 1 1 0 1
 
-install: lib report
+# Written anew each time: PREFIX may have changed.
+target/lowhenita.pc:
+	mkdir -p target
+	printf 'prefix=%s\nName: lowhenita\nDescription: line coders, their least windows and decoders, proved\nVersion: %s\nCflags: -I$${prefix}/include\nLibs: -L$${prefix}/lib -llowhenita\n' \
+	  '$(PREFIX)' '$(VERSION)' > $@
+
+install: lib report target/lowhenita.pc
 	install -d $(DESTDIR)$(PREFIX)/lib/pkgconfig $(DESTDIR)$(PREFIX)/include $(DESTDIR)$(PREFIX)/bin $(DESTDIR)$(PREFIX)/share/man/man1
 	install -m 644 target/staticlib/liblowhenita.a $(DESTDIR)$(PREFIX)/lib/
+	install -m 644 target/lowhenita.pc $(DESTDIR)$(PREFIX)/lib/pkgconfig/
 	install -m 644 include/lowhenita.h $(DESTDIR)$(PREFIX)/include/
 	install -m 755 target/bin/report $(DESTDIR)$(PREFIX)/bin/
 	install -m 644 man/report.1 $(DESTDIR)$(PREFIX)/share/man/man1/
-	printf 'prefix=%s\nName: lowhenita\nDescription: line coders, their least windows and decoders, proved\nVersion: %s\nCflags: -I$${prefix}/include\nLibs: -L$${prefix}/lib -llowhenita\n' \
-	  '$(PREFIX)' '$(VERSION)' > $(DESTDIR)$(PREFIX)/lib/pkgconfig/lowhenita.pc
 
 bench: lib
 	$(CC) -std=c99 -Wall -Wextra -Werror -O2 -Iinclude -Itests/host tests/bench/bench.c tests/bench/plain.c tests/host/coders.c \

@@ -13,8 +13,12 @@
  * The host owes:
  *   - each pointer is valid for its length: readable where it points to const, readable and writable otherwise;
  *   - a buffer that is written (not const) overlaps nothing else that is passed to the same call;
- *   - a pointer is NULL only where its length is 0.
- * All else is checked. The calls keep no state, allocate nothing and may run in several threads at once.
+ *   - a pointer is NULL only where its length is 0;
+ *   - while a call runs, no other thread changes a byte that is passed to it, or reads a byte of a buffer that it writes;
+ *   - every byte that is passed has been given a value, those of a buffer that is written too: the contracts speak of the bytes that
+ *     a buffer holds at the call. What a call returns and writes does not depend on them, any value will do;
+ *   - the thread has LOWHENITA_STACK_BYTES bytes of stack left, which is more than any call was measured to take.
+ * All else is checked. The calls keep no state, allocate nothing and may run in several threads at once, also on the same const bytes.
  */
 #ifndef LOWHENITA_H
 #define LOWHENITA_H
@@ -25,6 +29,9 @@
 #ifdef __cplusplus
 extern "C" {
 #endif
+
+/* The version of this header and of the library; make and pkg-config take it from here. */
+#define LOWHENITA_VERSION "1.0"
 
 /* Limits of a coder: states, input letters, output letters; the bytes of its file. */
 #define LOWHENITA_MAX_STATES 16
@@ -47,6 +54,72 @@ extern "C" {
 /* Field 0 of a search. */
 #define LOWHENITA_WINDOW 0
 #define LOWHENITA_LOOPED_PAIR 1
+
+/* The stack that is enough for every call. docs/c-interface.md has what was measured, and how. */
+#define LOWHENITA_STACK_BYTES 65536
+
+/* The refusals: the numbers that the calls return, in checking order. */
+#define LOWHENITA_REFUSED_SHORT_FILE 1
+#define LOWHENITA_REFUSED_VERSION 2
+#define LOWHENITA_REFUSED_FILE_LENGTH 3
+#define LOWHENITA_REFUSED_COUNTS 4
+#define LOWHENITA_REFUSED_COUNT_FIELD 5
+#define LOWHENITA_REFUSED_ENTRY 6
+#define LOWHENITA_REFUSED_START_STATE 7
+#define LOWHENITA_REFUSED_WINDOW_SIDE 8
+#define LOWHENITA_REFUSED_NUMBER_OF_LETTERS 9
+#define LOWHENITA_REFUSED_TABLE_SIZE 10
+#define LOWHENITA_REFUSED_SHORT_BUFFER 11
+#define LOWHENITA_REFUSED_INPUT_LETTER 12
+#define LOWHENITA_REFUSED_RECEIVED_LETTER 13
+
+/* A sentence for the number that a call has returned; there is one for every number. */
+static inline const char *lowhenita_refusal_text(size_t number)
+{
+    switch (number) {
+    case 0:
+        return "Not refused.";
+    case LOWHENITA_REFUSED_SHORT_FILE:
+        return "The file is too short to have the six bytes before the entries.";
+    case LOWHENITA_REFUSED_VERSION:
+        return "The version is not 1.";
+    case LOWHENITA_REFUSED_FILE_LENGTH:
+        return "The count field does not say how many bytes follow it.";
+    case LOWHENITA_REFUSED_COUNTS:
+        return "N or I is not 1 to 16, or O is not 1 to 64.";
+    case LOWHENITA_REFUSED_COUNT_FIELD:
+        return "The count field does not fit N and I: it must be 3 + 2 * N * I.";
+    case LOWHENITA_REFUSED_ENTRY:
+        return "An entry leads to a state that there is not, or puts out a letter that there is not.";
+    case LOWHENITA_REFUSED_START_STATE:
+        return "There is no such start state.";
+    case LOWHENITA_REFUSED_WINDOW_SIDE:
+        return "A window has more than 136 letters on one side.";
+    case LOWHENITA_REFUSED_NUMBER_OF_LETTERS:
+        return "There are more or fewer letters than the window or the looped pair has.";
+    case LOWHENITA_REFUSED_TABLE_SIZE:
+        return "The table is larger than 65,536 bytes.";
+    case LOWHENITA_REFUSED_SHORT_BUFFER:
+        return "A lent buffer is too short.";
+    case LOWHENITA_REFUSED_INPUT_LETTER:
+        return "An input letter is I or above.";
+    case LOWHENITA_REFUSED_RECEIVED_LETTER:
+        return "A received letter is O or above.";
+    default:
+        return "There is no refusal with this number.";
+    }
+}
+
+/* Field k of a result, k from 0 to 7. */
+static inline uint64_t lowhenita_field(const uint8_t *result, size_t k)
+{
+    uint64_t x = 0;
+    size_t i;
+
+    for (i = 8 * k; i < 8 * k + 8; i++)
+        x = x << 8 | result[i];
+    return x;
+}
 
 /*
  * Runs the coder from state `start` on the letters of `input`: one output letter for each input letter, at the front of `output`.
