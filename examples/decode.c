@@ -1,99 +1,187 @@
-/* Reads a coder file, searches its window, runs the coder on some letters and decodes what came out.
-   Usage: decode CODER-FILE [LETTER ...]; without letters, a few are made up. */
+/* A host in C99 or C++: finds the window of a coder and decodes with it.
+
+   decode CODER-FILE [LETTER ...]
+       runs the coder from state 0 on the letters, decodes what it sends and says whether the letters came back; without letters, a few
+       are made up. For a coder without a decoder it says so.
+
+   decode -r CODER-FILE < RECEIVED
+       decodes the received letters of standard input, decimal numbers with white space between them, and prints one line: for each
+       place that has a full window the letter, - where no run gives that window, ? where several letters fit.
+
+   A message about an error goes to standard error. The exit status is 0; or 1 where a call refuses, where letters are to be decoded and
+   there is no decoder, or where letters did not come back; or 2 where the command line, a file or a letter is wrong. */
 #include "lowhenita.h"
 
+#include <ctype.h>
+#include <errno.h>
 #include <stdio.h>
-#include <stdlib.h>
 #include <string.h>
 
-enum { MOST = 1000 };
+enum { MOST = 10000, DIGITS = 3 };
 
-static unsigned long field(const uint8_t *result, int k)
+/* What is lent to the calls. Static, so that every byte is 0 before the first call. */
+static uint8_t file[LOWHENITA_MAX_FILE_BYTES + 1];
+static uint8_t pair[LOWHENITA_SEARCH_BYTES];
+static uint8_t result[LOWHENITA_RESULT_BYTES];
+static uint8_t letters[MOST], sent[MOST], decoded[MOST];
+
+static int fail(int status, const char *what, const char *why)
 {
-    unsigned long x = 0;
-    int i;
-
-    for (i = 0; i < 8; i++)
-        x = x << 8 | result[8 * k + i];
-    return x;
-}
-
-static void print_letters(const char *name, const uint8_t *letters, size_t n)
-{
-    size_t k;
-
-    printf("%-9s", name);
-    for (k = 0; k < n; k++)
-        printf(" %d", letters[k]);
-    printf("\n");
+    fprintf(stderr, "decode: %s: %s\n", what, why);
+    return status;
 }
 
 static int refused(const char *call, size_t number)
 {
     if (number != 0)
-        printf("%s: refused %lu\n", call, (unsigned long)number);
+        fprintf(stderr, "decode: %s: refused %lu: %s\n", call, (unsigned long)number, lowhenita_refusal_text(number));
     return number != 0;
 }
 
-/* A letter of the command line; one that is no number from 0 to 255 becomes 255, which no coder has. */
-static uint8_t letter(const char *word)
+static int read_file(const char *name, size_t *len)
 {
-    char *end;
-    unsigned long x = strtoul(word, &end, 10);
+    FILE *f = fopen(name, "rb");
+    int error;
 
-    return *word == '\0' || *end != '\0' || x > 255 ? 255 : (uint8_t)x;
+    if (f == NULL)
+        return fail(2, name, strerror(errno));
+    *len = fread(file, 1, sizeof file, f);
+    error = ferror(f) ? errno : 0;
+    fclose(f);
+    if (error != 0)
+        return fail(2, name, strerror(error));
+    if (*len > LOWHENITA_MAX_FILE_BYTES)
+        return fail(2, name, "longer than a coder file can be");
+    return 0;
+}
+
+/* Appends the letter that a word stands for: 1 to 3 digits, at most 255. */
+static int add_letter(const char *word, size_t len, size_t *n)
+{
+    unsigned x = 0;
+    size_t k;
+
+    for (k = 0; k < len && k < DIGITS && isdigit((unsigned char)word[k]); k++)
+        x = 10 * x + (unsigned)(word[k] - '0');
+    if (len == 0 || k < len || x > 255)
+        return fail(2, "letters", "not a number from 0 to 255");
+    if (*n == MOST)
+        return fail(2, "letters", "more than there is room for");
+    letters[(*n)++] = (uint8_t)x;
+    return 0;
+}
+
+static int read_letters(FILE *f, size_t *n)
+{
+    char word[DIGITS + 1];
+    size_t len = 0;
+    int c, status = 0;
+
+    do {
+        c = getc(f);
+        if (c != EOF && !isspace(c)) {
+            if (len < sizeof word)
+                word[len++] = (char)c;
+        } else if (len > 0) {
+            status = add_letter(word, len, n);
+            len = 0;
+        }
+    } while (c != EOF && status == 0);
+    if (status == 0 && ferror(f))
+        return fail(2, "standard input", strerror(errno));
+    return status;
+}
+
+static void print_letters(const uint8_t *from, size_t n)
+{
+    size_t k;
+
+    for (k = 0; k < n; k++) {
+        if (k > 0)
+            putchar(' ');
+        if (from[k] == LOWHENITA_NONE)
+            putchar('-');
+        else if (from[k] == LOWHENITA_SEVERAL)
+            putchar('?');
+        else
+            printf("%d", from[k]);
+    }
+    putchar('\n');
+}
+
+static int decode_received(size_t file_len, size_t before, size_t after, size_t n)
+{
+    if (refused("decode", lowhenita_decode(file, file_len, before, after, letters, n, decoded, sizeof decoded, result, sizeof result)))
+        return 1;
+    print_letters(decoded, (size_t)lowhenita_field(result, 0));
+    return 0;
+}
+
+static int run_and_decode(size_t file_len, size_t before, size_t after, size_t n)
+{
+    size_t count;
+
+    printf("window    %lu %lu\n", (unsigned long)before, (unsigned long)after);
+    if (n == 0)
+        for (; n < 12; n++)
+            letters[n] = (uint8_t)(n * n / 3 % file[4]);
+    if (refused("run", lowhenita_run(file, file_len, 0, letters, n, sent, sizeof sent, result, sizeof result)))
+        return 1;
+    printf("input     ");
+    print_letters(letters, n);
+    printf("sent      ");
+    print_letters(sent, n);
+
+    if (refused("decode", lowhenita_decode(file, file_len, before, after, sent, n, decoded, sizeof decoded, result, sizeof result)))
+        return 1;
+    count = (size_t)lowhenita_field(result, 0);
+    printf("decoded   ");
+    print_letters(decoded, count);
+    if (count == 0)
+        return 0;
+    if (memcmp(decoded, letters + before, count) != 0)
+        return fail(1, "decode", "the letters did not come back");
+    printf("the letters at places %lu to %lu came back\n", (unsigned long)before, (unsigned long)(before + count - 1));
+    return 0;
+}
+
+static int search_and_decode(int receiving, size_t file_len, size_t n)
+{
+    size_t before, after;
+
+    if (refused("search", lowhenita_search(file, file_len, pair, sizeof pair, result, sizeof result)))
+        return 1;
+    if (lowhenita_field(result, 0) == LOWHENITA_LOOPED_PAIR) {
+        if (receiving)
+            return fail(1, "search", "no decoder");
+        printf("no decoder: two runs, from states %lu and %lu, have equal outputs for as long as one likes on\n"
+               "both sides of a place at which their inputs differ\n",
+               (unsigned long)lowhenita_field(result, 1), (unsigned long)lowhenita_field(result, 2));
+        return 0;
+    }
+    before = (size_t)lowhenita_field(result, 1);
+    after = (size_t)lowhenita_field(result, 2);
+    return receiving ? decode_received(file_len, before, after, n) : run_and_decode(file_len, before, after, n);
 }
 
 int main(int argc, char **argv)
 {
-    uint8_t file[1024], letters[LOWHENITA_SEARCH_BYTES], result[LOWHENITA_RESULT_BYTES];
-    uint8_t input[MOST], sent[MOST], decoded[MOST];
-    size_t file_len, n = 0, before, after, count;
-    FILE *f;
+    int receiving = argc > 1 && strcmp(argv[1], "-r") == 0;
+    size_t file_len = 0, n = 0;
+    int status, k;
 
-    if (argc < 2) {
-        fprintf(stderr, "usage: decode CODER-FILE [LETTER ...]\n");
+    if (receiving ? argc != 3 : argc < 2) {
+        fprintf(stderr, "usage: decode CODER-FILE [LETTER ...]\n       decode -r CODER-FILE < RECEIVED\n");
         return 2;
     }
-    f = fopen(argv[1], "rb");
-    if (f == NULL) {
-        perror(argv[1]);
-        return 2;
-    }
-    file_len = fread(file, 1, sizeof file, f);
-    fclose(f);
-
-    if (refused("search", lowhenita_search(file, file_len, letters, sizeof letters, result, sizeof result)))
-        return 1;
-    if (field(result, 0) == LOWHENITA_LOOPED_PAIR) {
-        printf("no decoder: two runs, from states %lu and %lu, have equal outputs for as long as one likes on\n"
-               "both sides of a place at which their inputs differ\n",
-               field(result, 1), field(result, 2));
-        return 0;
-    }
-    before = field(result, 1);
-    after = field(result, 2);
-    printf("window    %lu %lu\n", (unsigned long)before, (unsigned long)after);
-
-    for (; n + 2 < (size_t)argc && n < MOST; n++)
-        input[n] = letter(argv[n + 2]);
-    if (n == 0)
-        for (; n < 12; n++)
-            input[n] = (uint8_t)(n * n / 3 % file[4]);
-
-    if (refused("run", lowhenita_run(file, file_len, 0, input, n, sent, sizeof sent, result, sizeof result)))
-        return 1;
-    print_letters("input", input, n);
-    print_letters("sent", sent, field(result, 0));
-
-    if (refused("decode", lowhenita_decode(file, file_len, before, after, sent, n, decoded, sizeof decoded, result,
-                                           sizeof result)))
-        return 1;
-    count = field(result, 0);
-    print_letters("decoded", decoded, count);
-    if (count == 0)
-        return 0;
-    printf("the letters at places %lu to %lu %s\n", (unsigned long)before, (unsigned long)(before + count - 1),
-           memcmp(decoded, input + before, count) == 0 ? "came back" : "DIFFER");
-    return memcmp(decoded, input + before, count) != 0;
+    status = read_file(argv[1 + receiving], &file_len);
+    if (receiving && status == 0)
+        status = read_letters(stdin, &n);
+    for (k = 2; !receiving && k < argc && status == 0; k++)
+        status = add_letter(argv[k], strlen(argv[k]), &n);
+    if (status == 0)
+        status = search_and_decode(receiving, file_len, n);
+    if ((fflush(stdout) != 0 || ferror(stdout)) && status == 0)
+        status = fail(2, "standard output", strerror(errno));
+    return status;
 }
