@@ -1,0 +1,98 @@
+/* The header: fields of known bytes; a sentence of its own for each refusal; and each refusal's name against the number that the library
+   returns for a call with that one fault. C99 and C++. The last line is 'N passed, M failed'. */
+#include "lowhenita.h"
+
+#include <stdio.h>
+#include <string.h>
+
+enum { REFUSALS = 13 };
+
+/* Running parity: 2 states, 2 input letters, 2 output letters. */
+static const uint8_t parity[] = {1, 0, 11, 2, 2, 2, 0, 0, 1, 1, 1, 1, 0, 0};
+static uint8_t file[sizeof parity], letters[LOWHENITA_SEARCH_BYTES], bytes[LOWHENITA_MAX_TABLE_BYTES + 1];
+static uint8_t result[LOWHENITA_RESULT_BYTES];
+static unsigned long passed, failed;
+
+static void expect(int holds, const char *what, size_t number)
+{
+    if (holds) {
+        passed++;
+    } else {
+        failed++;
+        printf("header: %s %lu\n", what, (unsigned long)number);
+    }
+}
+
+static void expect_refusal(size_t returned, size_t number)
+{
+    expect(returned == number, "the library does not return", number);
+}
+
+static void fields(void)
+{
+    static const uint8_t known[16] = {0, 0, 0, 0, 0, 0, 1, 2, 255, 254, 253, 252, 251, 250, 249, 248};
+    static const uint8_t input[] = {1, 1, 0, 1};
+
+    expect(lowhenita_field(known, 0) == 258, "field", 0);
+    expect(lowhenita_field(known, 1) == UINT64_C(0xfffefdfcfbfaf9f8), "field", 1);
+    expect_refusal(lowhenita_run(parity, sizeof parity, 0, input, 4, bytes, 4, result, sizeof result), 0);
+    expect(lowhenita_field(result, 0) == 4, "letters written", 4);
+    expect(lowhenita_field(result, 1) == 1, "end state", 1);
+    memset(result, 9, sizeof result);
+    expect(lowhenita_field(result, 7) == UINT64_C(0x0909090909090909), "field", 7);
+}
+
+static void texts(void)
+{
+    size_t k, j;
+
+    for (k = 0; k <= REFUSALS + 1; k++) {
+        const char *text = lowhenita_refusal_text(k);
+
+        expect(strlen(text) > 10 && text[strlen(text) - 1] == '.', "no sentence for", k);
+        for (j = 0; j < k; j++)
+            expect(strcmp(text, lowhenita_refusal_text(j)) != 0, "no sentence of its own for", k);
+    }
+    expect(strcmp(lowhenita_refusal_text(SIZE_MAX), lowhenita_refusal_text(REFUSALS + 1)) == 0, "sentence for", SIZE_MAX);
+}
+
+/* The search on the parity coder's file with one byte changed. */
+static size_t search_changed(size_t place, uint8_t byte, size_t len)
+{
+    memcpy(file, parity, sizeof file);
+    file[place] = byte;
+    return lowhenita_search(file, len, letters, sizeof letters, result, sizeof result);
+}
+
+static void refusals(void)
+{
+    static const uint8_t two[] = {0, 2};
+    const size_t n = sizeof parity;
+
+    expect_refusal(search_changed(0, 1, n), 0);
+    expect_refusal(search_changed(0, 1, 5), LOWHENITA_REFUSED_SHORT_FILE);
+    expect_refusal(search_changed(0, 2, n), LOWHENITA_REFUSED_VERSION);
+    expect_refusal(search_changed(0, 1, n - 1), LOWHENITA_REFUSED_FILE_LENGTH);
+    expect_refusal(search_changed(3, 17, n), LOWHENITA_REFUSED_COUNTS);
+    expect_refusal(search_changed(3, 1, n), LOWHENITA_REFUSED_COUNT_FIELD);
+    expect_refusal(search_changed(6, 2, n), LOWHENITA_REFUSED_ENTRY);
+    expect_refusal(search_changed(13, 2, n), LOWHENITA_REFUSED_ENTRY);
+    expect_refusal(lowhenita_run(parity, n, 2, two, 1, bytes, 1, result, sizeof result), LOWHENITA_REFUSED_START_STATE);
+    expect_refusal(lowhenita_decode(parity, n, 0, 137, two, 1, bytes, 1, result, sizeof result), LOWHENITA_REFUSED_WINDOW_SIDE);
+    expect_refusal(lowhenita_window(parity, n, 1, 0, two, 1, result, sizeof result), LOWHENITA_REFUSED_NUMBER_OF_LETTERS);
+    expect_refusal(lowhenita_check(parity, n, 0, 0, 1, 0, 0, 1, two, 2, result, sizeof result), LOWHENITA_REFUSED_NUMBER_OF_LETTERS);
+    expect_refusal(lowhenita_table(parity, n, 8, 8, bytes, sizeof bytes, result, sizeof result), LOWHENITA_REFUSED_TABLE_SIZE);
+    expect_refusal(lowhenita_search(parity, n, letters, sizeof letters - 1, result, sizeof result), LOWHENITA_REFUSED_SHORT_BUFFER);
+    expect_refusal(lowhenita_search(parity, n, letters, sizeof letters, result, sizeof result - 1), LOWHENITA_REFUSED_SHORT_BUFFER);
+    expect_refusal(lowhenita_run(parity, n, 0, two, 2, bytes, 2, result, sizeof result), LOWHENITA_REFUSED_INPUT_LETTER);
+    expect_refusal(lowhenita_decode(parity, n, 0, 0, two, 2, bytes, 2, result, sizeof result), LOWHENITA_REFUSED_RECEIVED_LETTER);
+}
+
+int main(void)
+{
+    fields();
+    texts();
+    refusals();
+    printf("%lu passed, %lu failed\n", passed, failed);
+    return failed == 0 && passed > 0 ? 0 : 1;
+}

@@ -1,0 +1,106 @@
+/* The examples of docs/c-interface.md, in its order: the calls as they stand there, and what it says of each.
+   The last line is 'N passed, M failed'. */
+#include "lowhenita.h"
+
+#include <stdio.h>
+#include <string.h>
+
+static const uint8_t a[] = {1, 0, 11, 2, 2, 2, 0, 0, 1, 1, 1, 1, 0, 0};
+static const uint8_t c[] = {1, 0, 7, 1, 2, 1, 0, 0, 0, 0};
+static uint8_t result[64], other[64], letters[1026], out[4];
+static unsigned passed, failed;
+
+#define HOLDS(claim) ((claim) ? (void)passed++ : (void)(failed++, printf("docs/c-interface.md: not so: %s\n", #claim)))
+
+/* Whether a call that was accepted has left these bytes in `out`, the bytes past its own still 9. */
+static int wrote(uint8_t w, uint8_t x, uint8_t y, uint8_t z)
+{
+    return out[0] == w && out[1] == x && out[2] == y && out[3] == z;
+}
+
+static void run(void)
+{
+    static const uint8_t input[] = {1, 1, 0};
+    static const uint8_t begins[16] = {0, 0, 0, 0, 0, 0, 0, 3};
+
+    memset(out, 9, sizeof out);
+    HOLDS(lowhenita_run(a, sizeof a, 0, input, 3, out, 4, result, 64) == 0);
+    HOLDS(wrote(1, 0, 0, 9));
+    HOLDS(lowhenita_field(result, 0) == 3);
+    HOLDS(lowhenita_field(result, 1) == 0);
+    HOLDS(memcmp(result, begins, 16) == 0);
+    HOLDS(lowhenita_run(a, sizeof a, 0, input, 3, out, 4, result, 63) == LOWHENITA_REFUSED_SHORT_BUFFER);
+    HOLDS(lowhenita_run(a, sizeof a, 2, input, 3, out, 4, result, 63) == LOWHENITA_REFUSED_START_STATE);
+}
+
+static void search(void)
+{
+    size_t pair[6], n = 1, k;
+
+    memset(letters, 9, sizeof letters);
+    HOLDS(lowhenita_search(a, sizeof a, letters, 1026, result, 64) == 0);
+    HOLDS(lowhenita_field(result, 0) == LOWHENITA_WINDOW);
+    HOLDS(lowhenita_field(result, 1) == 1);
+    HOLDS(lowhenita_field(result, 2) == 0);
+    for (k = 0; k < sizeof letters && letters[k] == 9; k++)
+        ;
+    HOLDS(k == sizeof letters);
+
+    HOLDS(lowhenita_search(c, sizeof c, letters, 1026, result, 64) == 0);
+    HOLDS(lowhenita_field(result, 0) == LOWHENITA_LOOPED_PAIR);
+    for (k = 0; k < 6; k++) {
+        pair[k] = (size_t)lowhenita_field(result, k + 1);
+        n += k < 2 ? 0 : pair[k];
+    }
+    HOLDS(lowhenita_check(c, sizeof c, pair[0], pair[1], pair[2], pair[3], pair[4], pair[5], letters, 2 * n, other, 64) == 0);
+    HOLDS(lowhenita_field(other, 0) == 1);
+}
+
+static void decode(void)
+{
+    static const uint8_t received[] = {1, 0, 0};
+
+    memset(out, 9, sizeof out);
+    HOLDS(lowhenita_decode(a, sizeof a, 1, 0, received, 3, out, 4, result, 64) == 0);
+    HOLDS(wrote(1, 0, 9, 9));
+    HOLDS(lowhenita_field(result, 0) == 2);
+}
+
+static void check(void)
+{
+    static const uint8_t pair[] = {0, 0, 0, 1, 0, 0};
+
+    HOLDS(lowhenita_check(c, sizeof c, 0, 0, 1, 0, 0, 1, pair, 6, result, 64) == 0);
+    HOLDS(lowhenita_field(result, 0) == 1);
+    HOLDS(lowhenita_check(a, sizeof a, 0, 0, 1, 0, 0, 1, pair, 6, result, 64) == 0);
+    HOLDS(lowhenita_field(result, 0) == 0);
+}
+
+static void window(void)
+{
+    static const uint8_t received[] = {0, 1};
+
+    HOLDS(lowhenita_window(a, sizeof a, 1, 0, received, 2, result, 64) == 0);
+    HOLDS(lowhenita_field(result, 0) == 1);
+}
+
+static void table(void)
+{
+    memset(out, 9, sizeof out);
+    HOLDS(lowhenita_table(a, sizeof a, 1, 0, out, 4, result, 64) == 0);
+    HOLDS(wrote(0, 1, 1, 0));
+    HOLDS(lowhenita_field(result, 0) == 4);
+    HOLDS(lowhenita_table(a, sizeof a, 1, 0, out, 3, result, 64) == LOWHENITA_REFUSED_SHORT_BUFFER);
+}
+
+int main(void)
+{
+    run();
+    search();
+    decode();
+    check();
+    window();
+    table();
+    printf("%u passed, %u failed\n", passed, failed);
+    return failed == 0 && passed > 0 ? 0 : 1;
+}
