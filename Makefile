@@ -1,8 +1,9 @@
-# make test: the gate. make report: builds the program and runs it on an example. make lib: the static library for a host in C, with
-# include/lowhenita.h. make examples: the example host, run on an example. make target/lowhenita.pc: the pkg-config file, nothing is
-# proved for it. make install PREFIX=..: library, header, program, manual page, pkg-config file. make bench: the library beside plain C.
+# make test: the gate. make check: the same without the must-fail edits, and what is proved already is not proved again.
+# make report: builds the program and runs it on an example. make lib: the static library for a host in C, with include/lowhenita.h.
+# make examples: the example host, run on an example. make target/lowhenita.pc: the pkg-config file, nothing is proved for it.
+# make install PREFIX=..: library, header, program, manual page, pkg-config file. make bench: the library beside plain C.
 # make clean: removes what was built.
-.PHONY: test report lib examples target/lowhenita.pc install bench clean
+.PHONY: test check report lib examples target/lowhenita.pc install bench clean
 
 PREFIX = /usr/local
 VERSION := $(shell sed -n 's/^\#define LOWHENITA_VERSION "\(.*\)"$$/\1/p' include/lowhenita.h)
@@ -10,6 +11,14 @@ CC = gcc
 
 test:
 	.ci/run
+
+check:
+	rt fmt --check
+	rt check
+	rt staticlib lowhenita
+	tests/host/run
+	tests/report/run
+	tests/examples/run
 
 report:
 	rt check report

@@ -1,6 +1,6 @@
 -- What a check that is not refused may rely on, and what it then gives.
 use mathlib.Core.Path.{_≡_, refl}
-use mathlib.Core.Bool.{Bool, not, _&&_}
+use mathlib.Core.Bool.{Bool, true, not, _&&_}
 use mathlib.Core.List.{List}
 use Prim.Native.Nat.{ℕ, _*_, _<_}
 use lib.ListN.{length}
@@ -24,31 +24,33 @@ use Rattle.checker.specs.Follow.{CheckOf}
 use Rattle.checker.specs.declared.CheckResult.the-variants.{Checked}
 use Rattle.checker.proofs.Judging.{judges-map}
 
-pub record CheckAccepted (f : List ℕ) (p : LoopedPair) : Type 0 where
+pub record CheckAccepted (f : List ℕ) (p : LoopedPair) (fit : Bool) : Type 0 where
   pub file : fileRefusal f ≡ 0
   pub first-state : p .s < statesOf f
   pub second-state : p .t < statesOf f
   pub size : length (p .bytes) ≡ 2 * letters p
+  pub fits : fit ≡ true
   pub below : Letters (inputsOf f) (p .bytes)
 
-pub check-accepted : (f : List ℕ) (p : LoopedPair) (fits : Bool) → checkRefusal f p fits ≡ 0 → CheckAccepted f p
+pub check-accepted : (f : List ℕ) (p : LoopedPair) (fit : Bool) → checkRefusal f p fit ≡ 0 → CheckAccepted f p fit
 unfolding checkRefusal
-check-accepted f p fits e =
+check-accepted f p fit e =
     let l = lettersBelow (inputsOf f) (p .bytes) in
     let n = eqb (length (p .bytes)) (2 * letters p) in
     let starts = (ltb (p .s) (statesOf f) && ltb (p .t) (statesOf f)) in
-    let rest = refuse (not starts) 7 (refuse (not n) 9 (refuse (not fits) 11 (refuse (not l) 12 0))) in
+    let rest = refuse (not starts) 7 (refuse (not n) 9 (refuse (not fit) 11 (refuse (not l) 12 0))) in
     let a = first-none (fileRefusal f) rest e in
     let b = refuse-not starts _ _ (lit< tt) (a .1) in
     let s = both-true _ _ (b .0) in
     let d = refuse-not n _ _ (lit< tt) (b .1) in
-    let w = refuse-not fits _ _ (lit< tt) (d .1) in
+    let w = refuse-not fit _ _ (lit< tt) (d .1) in
     let t = refuse-not l _ _ (lit< tt) (w .1) in
     record {
       file = a .0;
       first-state = ltb-true _ _ (s .0);
       second-state = ltb-true _ _ (s .1);
       size = eqb-true _ _ (d .0);
+      fits = w .0;
       below = letters-below (inputsOf f) (p .bytes) (t .0);
     }
 
@@ -58,7 +60,7 @@ pub right :
 right {answer = answer} j = record { answer = answer; is = refl; yes′ = j .yes′; no′ = j .no′ }
 
 -- on the tables of the file
-module _ {c : Coder} {f : List ℕ} {p : LoopedPair} (e : c ≡ coderOf f) (r : CheckAccepted f p) where
+module _ {c : Coder} {f : List ℕ} {p : LoopedPair} {fit : Bool} (e : c ≡ coderOf f) (r : CheckAccepted f p fit) where
   pub check-of : CheckOf c (c .next) (c .output) p
   unfolding coderOf
   check-of = record {

@@ -1,16 +1,13 @@
 -- The calls from C: their promises from what they were told, and what a call that is not refused may rely on.
-use mathlib.Core.Path.{_≡_, refl, sym, ap, _∙_}
-use mathlib.Core.Bool.{Bool, true, false, not, _&&_}
+use mathlib.Core.Path.{_≡_, sym, ap, _∙_}
+use mathlib.Core.Bool.{true}
 use mathlib.Core.List.{List, [], _∷_}
-use Prim.Native.Nat.{ℕ, _*_, _≤_}
-use native.Mathlib.Omega.{arith}
+use Prim.Native.Nat.{ℕ, _≤_}
 use lib.ListN.{length}
-use lib.Dec.{lit<, ltb, leb, eqb}
+use lib.Dec.{leb}
 use borrow.Author.Tests.{leb-true}
-use Rattle.mealy.specs.LoopedPair.{LoopedPair, letters}
-use Rattle.coder.specs.Refusal.{refuse}
-use Rattle.coder.specs.File.{fileRefusal, statesOf}
-use Rattle.coder.proofs.Refusals.{both-true, refuse-not, first-none, upon-refused, upon-done}
+use Rattle.mealy.specs.LoopedPair.{LoopedPair}
+use Rattle.coder.proofs.Refusals.{both-true, upon-refused, upon-done}
 use Rattle.running.specs.Run.{RunAsked}
 use Rattle.running.proofs.Running.{run-accepted, asked}
 use Rattle.values.specs.declared.Window.{Window}
@@ -22,6 +19,7 @@ use Rattle.decoder.proofs.Accepting.{window-accepted, string-asked, string-othe
 use Rattle.search.specs.Search.{searchRefusal, wanted}
 use Rattle.search.proofs.Files.{search-accepted}
 use Rattle.checker.specs.Check.{checkRefusal}
+use Rattle.checker.proofs.Checking.{check-accepted}
 use Rattle.layout.specs.Layout.{resultBytes, withFields}
 use Rattle.lowhenita.specs.Host.{roomy, Hosted, runNumber, searchNumber, BytesGiven, decodeNumber, tableNumber, checkNumber, windowNumber}
 
@@ -71,21 +69,10 @@ pub accepted-table :
 accepted-table f w before result e =
     record { asked = table-asked f w before _ e; room = leb-true _ _ (table-others f w _ _ e) }
 
-check-fits : (f : List ℕ) (p : LoopedPair) (fits : Bool) → checkRefusal f p fits ≡ 0 → fits ≡ true
-unfolding checkRefusal
-check-fits f p true e = refl
-check-fits f p false e =
-    let starts = (ltb (p .s) (statesOf f) && ltb (p .t) (statesOf f)) in
-    let size = eqb (length (p .bytes)) (2 * letters p) in
-    let u = first-none (fileRefusal f) (refuse (not starts) 7 (refuse (not size) 9 11)) e in
-    let v = refuse-not starts 7 (refuse (not size) 9 11) (lit< tt) (u .1) in
-    let w = refuse-not size 9 11 (lit< tt) (v .1) .1 in
-    absurd (omega arith)
-
 pub accepted-check :
     (f : List ℕ) (p : LoopedPair) (result : List ℕ) → checkNumber f p result ≡ 0 → Accepted (checkRefusal f p true ≡ 0) result
 accepted-check f p result e =
-    let h = check-fits f p _ e in
+    let h = check-accepted f p _ e .fits in
     record { asked = rw h at e; room = leb-true _ _ h }
 
 pub accepted-window :

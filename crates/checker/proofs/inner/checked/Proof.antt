@@ -1,6 +1,7 @@
 -- `checked` meets its contract: what is judged in the setting of the words is judged in that of the file.
 use borrow.Author.Needs.{needs}
 use denote.Ref.{now}
+use mathlib.Core.Bool.{true}
 use Rattle.coder.proofs.Accepted.{accepted}
 use Rattle.values.specs.Pair.{pairOf}
 use Rattle.setting.proofs.Same.{coder-sound}
@@ -8,7 +9,7 @@ use Rattle.checker.proofs.Checking.{CheckAccepted, check-accepted, chec
 use Rattle.checker.proofs.inner.checked.Statement.{statement}
 use Rattle.checker.proofs.inner.checked.Tie as tie
 
-known : (c : tie.Start) → CheckAccepted (now (c .args .file)) (pairOf (c .args .pair) (now (c .args .letters)))
+known : (c : tie.Start) → CheckAccepted (now (c .args .file)) (pairOf (c .args .pair) (now (c .args .letters))) true
 known c = check-accepted _ _ _ (c .pre)
 
 from-checked-requires : tie.Need-from-checked-requires
