@@ -10,11 +10,10 @@ use Rattle.mealy.specs.Setting.{Setting}
 use Rattle.mealy.specs.Window.{Works}
 use Rattle.mealy.specs.Order.{Relation, Order}
 use Rattle.mealy.proofs.LeastWindows.{least-unique, fewest-letters}
-use Rattle.coder.specs.Refusal.{upon}
 use Rattle.coder.specs.File.{settingOf}
 use Rattle.values.specs.Window.{window}
 use Rattle.values.specs.declared.Window.{Window}
-use Rattle.search.specs.Search.{searchRefusal, wanted, order, PairReport, Says, IsNoDecoder, RefusedSearch, FoundVerdict, SearchPromise}
+use Rattle.search.specs.Search.{searchRefusal, wanted, order, PairReport, Says, IsNoDecoder, FoundVerdict, SearchPromise}
 use Rattle.search.specs.declared.Verdict.{Verdict}
 use Rattle.search.specs.declared.Verdict.the-variants.{Least, NoDecoder}
 use Rattle.search.specs.declared.SearchResult.{SearchResult}
@@ -35,14 +34,18 @@ pub found :
 found f before v after = go (searchRefusal f (leb wanted (length before))) refl
   where
     go :
-        (k : ℕ) → searchRefusal f (leb wanted (length before)) ≡ k →
-        upon k (λ j. RefusedSearch j (Found v) before after) (FoundVerdict order (settingOf f) (Found v) before after) →
+        (k : ℕ) → searchRefusal f (leb wanted (length before)) ≡ k → SearchPromise f before (Found v) after →
         FoundSays f before v after
-    go zero e q =
+    go zero e p =
+        let q : FoundVerdict order (settingOf f) (Found v) before after = rw e at p in
         let d = q .is in
         let z : v ≡ q .verdict = cc in
         record { accepted = e; says = rw z (q .says) }
-    go (suc k) e q = let d = q .is in let z : _≡_ {A = ℕ} 0 1 = cc in absurd (omega arith)
+    go (suc k) e p =
+        let q = rw e at p in
+        let d = q .is in
+        let z : _≡_ {A = ℕ} 0 1 = cc in
+        absurd (omega arith)
 
 -- ---- "no decoder" exactly when no window works
 
