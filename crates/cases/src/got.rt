@@ -1,0 +1,216 @@
+// What a call gave, its text, and whether it is the expected one.
+use crate::reading::NOWHERE;
+use crate::reading::next_line;
+
+pub(crate) const REFUSED: usize = 0;
+
+pub(crate) const REFUSED_BUFFER: usize = 1;
+
+pub(crate) const CODER: usize = 2;
+
+pub(crate) const BYTES: usize = 3;
+
+pub(crate) const RAN: usize = 4;
+
+pub(crate) const COUNTED: usize = 5;
+
+pub(crate) const LETTER: usize = 6;
+
+pub(crate) const NONE: usize = 7;
+
+pub(crate) const SEVERAL: usize = 8;
+
+pub(crate) const LEAST: usize = 9;
+
+pub(crate) const YES: usize = 10;
+
+pub(crate) const NO: usize = 11;
+
+pub(crate) const PAIR: usize = 12;
+
+pub(crate) const PAIR_WRONG: usize = 13;
+
+pub(crate) const PAIR_LONG: usize = 14;
+
+pub(crate) const PAIR_PAST: usize = 15;
+
+pub(crate) const BACK: usize = 16;
+
+pub(crate) const FORWARD: usize = 17;
+
+pub(crate) const UNREADABLE: usize = 18;
+
+// The number of a form, and the numbers that stand in it.
+pub(crate) struct Got {
+    pub(crate) form: usize,
+    pub(crate) a: usize,
+    pub(crate) b: usize,
+    pub(crate) c: usize,
+}
+
+// The forms, in the order of their numbers: `#` stands for a space and a number, `@` for a list of bytes with a space before each.
+fn forms() -> [u8; 325] {
+    *b"refused#\n\
+    refused#, buffer@\n\
+    coder###\n\
+    bytes@\n\
+    count# end#, buffer@\n\
+    count#, buffer@\n\
+    letter#\n\
+    none\n\
+    several\n\
+    window##, buffer@\n\
+    yes\n\
+    no\n\
+    no decoder, checked, within bounds, rest kept\n\
+    no decoder, but the checker says no\n\
+    no decoder, but out of bounds\n\
+    no decoder, but bytes past the letters changed\n\
+    back loop#\n\
+    forward loop#\n\
+    cannot be read\n"
+}
+
+// The place at which a form begins.
+fn form_at(forms: &[u8], form: usize) -> usize {
+    let mut at = 0;
+    let mut k = 0;
+    while k < form {
+        at = next_line(forms, at);
+        k += 1;
+    }
+    at
+}
+
+// The place after the bytes that equal the one at `at`.
+pub(crate) fn run_end(bytes: &[u8], at: usize) -> usize {
+    let mut i = at;
+    while i < bytes.len() {
+        if bytes[i] != bytes[at] {
+            return i;
+        }
+        i += 1;
+    }
+    i
+}
+
+// The place after `word`, which stands at `at`.
+fn word_after(line: &[u8], at: usize, word: &[u8]) -> usize {
+    let mut p = at;
+    let mut i = 0;
+    while i < word.len() {
+        if line.len() <= p {
+            return NOWHERE;
+        }
+        if line[p] != word[i] {
+            return NOWHERE;
+        }
+        p += 1;
+        i += 1;
+    }
+    p
+}
+
+// The functions from here on go through the text of what a call gave. With `say` they write it; else they return the place after it, if
+// it stands at `at`.
+fn word(line: &[u8], at: usize, word: &[u8], say: bool) -> usize {
+    if say {
+        io::write_all(1, word);
+        return at;
+    }
+    word_after(line, at, word)
+}
+
+// A byte, and a number behind it.
+fn number(line: &[u8], at: usize, before: u8, n: usize, say: bool) -> usize {
+    let mut digits = [0u8; 20];
+    let one = [before];
+    let next = word(line, at, &one, say);
+    let k = io::decimal(n as u64, &mut digits);
+    word(line, next, &digits[..k], say)
+}
+
+// A byte that stands n times: `v` or `v*n`.
+fn run(line: &[u8], at: usize, byte: u8, n: usize, say: bool) -> usize {
+    let next = number(line, at, b' ', wide(byte), say);
+    if n == 1 {
+        return next;
+    }
+    number(line, next, b'*', n, say)
+}
+
+fn list(line: &[u8], at: usize, bytes: &[u8], say: bool) -> usize {
+    if bytes.len() == 0 {
+        return word(line, at, b" -", say);
+    }
+    let mut p = at;
+    let mut i = 0;
+    while i < bytes.len() {
+        let e = run_end(bytes, i);
+        if e <= i {
+            return NOWHERE;
+        }
+        p = run(line, p, bytes[i], e - i, say);
+        i = e;
+    }
+    p
+}
+
+// What one byte of a form stands for.
+fn sign(line: &[u8], at: usize, form: u8, g: Got, bytes: &[u8], say: bool) -> usize {
+    if form == b'#' {
+        return number(line, at, b' ', g.a, say);
+    }
+    if form == b'@' {
+        return list(line, at, bytes, say);
+    }
+    let one = [form];
+    word(line, at, &one, say)
+}
+
+// The numbers that are left after one byte of a form.
+fn rest(form: u8, g: Got) -> Got {
+    if form == b'#' {
+        return Got {
+            form: g.form,
+            a: g.b,
+            b: g.c,
+            c: 0,
+        };
+    }
+    g
+}
+
+// The form that begins at `from`.
+fn by_form(
+    forms: &[u8],
+    from: usize,
+    got: Got,
+    bytes: &[u8],
+    line: &[u8],
+    at: usize,
+    say: bool,
+) -> usize {
+    let mut g = got;
+    let mut p = at;
+    let mut i = from;
+    while i < forms.len() {
+        if forms[i] == b'\n' {
+            return p;
+        }
+        p = sign(line, p, forms[i], g, bytes, say);
+        let left = rest(forms[i], g);
+        g = left;
+        i += 1;
+    }
+    p
+}
+
+pub(crate) fn text(g: Got, bytes: &[u8], line: &[u8], at: usize, say: bool) -> usize {
+    let forms = forms();
+    by_form(&forms, form_at(&forms, g.form), g, bytes, line, at, say)
+}
+
+fn wide(b: u8) -> usize {
+    b as usize
+}

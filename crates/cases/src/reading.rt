@@ -1,0 +1,219 @@
+// What stands in a line: words, numbers and lists of bytes. A place is an index of the line; one past every line, NOWHERE, says that
+// something could not be read, and what is read from there on cannot be read either.
+pub(crate) const NOWHERE: usize = 18446744073709551615;
+
+// A number, and the place after it.
+pub(crate) struct Value {
+    pub(crate) value: usize,
+    pub(crate) next: usize,
+}
+
+// The number of bytes of a list, and the place after it.
+pub(crate) struct Bytes {
+    pub(crate) count: usize,
+    pub(crate) next: usize,
+}
+
+// A byte, how many times it stands there, and the place after it.
+pub(crate) struct Item {
+    pub(crate) byte: usize,
+    pub(crate) times: usize,
+    pub(crate) next: usize,
+}
+
+// The bytes from one place to another; none where there are no such places.
+pub(crate) fn part(text: &[u8], from: usize, to: usize) -> &[u8] {
+    if from <= to {
+        if to <= text.len() {
+            return &text[from..to];
+        }
+    }
+    &text[..0]
+}
+
+// The byte at a place, 0 where there is none.
+pub(crate) fn byte(line: &[u8], at: usize) -> u8 {
+    if at < line.len() {
+        return line[at];
+    }
+    0
+}
+
+// The place after one byte, which stands at `at`.
+pub(crate) fn after(line: &[u8], at: usize, b: u8) -> usize {
+    if at < line.len() {
+        if line[at] == b {
+            return at + 1;
+        }
+    }
+    NOWHERE
+}
+
+pub(crate) fn one_more(n: usize) -> usize {
+    if n < 65536 {
+        return n + 1;
+    }
+    n
+}
+
+// The end of the line that begins at `at`, with the lines after it that begin with a space.
+pub(crate) fn line_end(text: &[u8], at: usize) -> usize {
+    let mut i = at;
+    while i < text.len() {
+        if text[i] == b'\n' {
+            if byte(text, i + 1) != b' ' {
+                return i;
+            }
+        }
+        i += 1;
+    }
+    i
+}
+
+// The place after the line that begins at `at`.
+pub(crate) fn next_line(text: &[u8], at: usize) -> usize {
+    one_more(line_end(text, at))
+}
+
+// The first place from `at` on that holds neither a space nor the end of a line.
+pub(crate) fn blanks(line: &[u8], at: usize) -> usize {
+    let mut i = at;
+    while i < line.len() {
+        if line[i] != b' ' {
+            if line[i] != b'\n' {
+                return i;
+            }
+        }
+        i += 1;
+    }
+    i
+}
+
+// What a digit stands for, 10 for any other byte.
+fn digit(b: u8) -> usize {
+    if b < b'0' {
+        return 10;
+    }
+    if b'9' < b {
+        return 10;
+    }
+    (b - b'0') as usize
+}
+
+// A number whose digits stand from `from` to `to`.
+fn read(value: usize, from: usize, to: usize) -> Value {
+    if from == to {
+        return Value {
+            value: 0,
+            next: NOWHERE,
+        };
+    }
+    Value { value, next: to }
+}
+
+// The number whose first digit stands at `at`.
+pub(crate) fn number(line: &[u8], at: usize) -> Value {
+    let mut value = 0;
+    let mut i = at;
+    while i < line.len() {
+        let d = digit(line[i]);
+        if 9 < d {
+            return read(value, at, i);
+        }
+        if (18446744073709551615 - d) / 10 < value {
+            return read(0, at, at);
+        }
+        value = 10 * value + d;
+        i += 1;
+    }
+    read(value, at, i)
+}
+
+// `v` or `v*n`, with blanks in front of it.
+pub(crate) fn run(line: &[u8], at: usize) -> Item {
+    let v = number(line, blanks(line, at));
+    let star = after(line, v.next, b'*');
+    if star == NOWHERE {
+        return Item {
+            byte: v.value,
+            times: 1,
+            next: v.next,
+        };
+    }
+    let n = number(line, star);
+    Item {
+        byte: v.value,
+        times: n.value,
+        next: n.next,
+    }
+}
+
+fn low(n: usize) -> u8 {
+    (n % 256) as u8
+}
+
+// The same byte so many times from the place `at` on, and the place after them.
+fn fill(into: &mut [u8], at: usize, times: usize, byte: u8) -> usize {
+    let mut p = at;
+    let mut k = 0;
+    while k < times {
+        if into.len() <= p {
+            return NOWHERE;
+        }
+        into[p] = byte;
+        p += 1;
+        k += 1;
+    }
+    p
+}
+
+// The runs of a list, up to the first place where none follows.
+fn runs(line: &[u8], at: usize, into: &mut [u8]) -> Bytes {
+    let mut n = 0;
+    let mut i = at;
+    while i < line.len() {
+        let x = run(line, i);
+        let next = x.next;
+        if line.len() < next {
+            return Bytes { count: n, next: i };
+        }
+        if next <= i {
+            return Bytes { count: n, next: i };
+        }
+        if 255 < x.byte {
+            return Bytes {
+                count: NOWHERE,
+                next: i,
+            };
+        }
+        let m = fill(into, n, x.times, low(x.byte));
+        n = m;
+        i = next;
+    }
+    Bytes { count: n, next: i }
+}
+
+// A list of bytes, put into a buffer: its runs, or `-` for none.
+pub(crate) fn list(line: &[u8], at: usize, into: &mut [u8]) -> Bytes {
+    let none = after(line, blanks(line, at), b'-');
+    if none != NOWHERE {
+        return Bytes {
+            count: 0,
+            next: none,
+        };
+    }
+    let l = runs(line, at, into);
+    if l.count == 0 {
+        return Bytes {
+            count: 0,
+            next: NOWHERE,
+        };
+    }
+    if into.len() < l.count {
+        return Bytes {
+            count: 0,
+            next: NOWHERE,
+        };
+    }
+    l
+}
