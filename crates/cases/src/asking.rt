@@ -1,8 +1,10 @@
 // What a line asks for: a call with its arguments, or a file to keep.
-use crate::reading::NOWHERE;
+
+use crate::reading::above;
 use crate::reading::after;
 use crate::reading::blanks;
-use crate::reading::list;
+use crate::reading::byte;
+use crate::reading::form_at;
 use crate::reading::next_line;
 use crate::reading::number;
 use crate::reading::one_more;
@@ -13,9 +15,9 @@ pub(crate) const STRING: usize = 1;
 
 pub(crate) const TABLE: usize = 2;
 
-pub(crate) const SEARCH_BACK: usize = 4;
+pub(crate) const BACK_LOOP: usize = 4;
 
-pub(crate) const SEARCH_FORWARD: usize = 5;
+pub(crate) const FORWARD_LOOP: usize = 5;
 
 pub(crate) const COUNTS: usize = 6;
 
@@ -27,7 +29,8 @@ pub(crate) const CHECK: usize = 9;
 
 pub(crate) const FILE: usize = 10;
 
-// A call by its number; the last six numbers that it is given, f the last; how many bytes it is given; and the place after all.
+// A call by its number; the last six numbers that it is given, f the last; where its list of bytes begins and ends; and the place after
+// all.
 pub(crate) struct Request {
     pub(crate) call: usize,
     pub(crate) a: usize,
@@ -36,11 +39,67 @@ pub(crate) struct Request {
     pub(crate) d: usize,
     pub(crate) e: usize,
     pub(crate) f: usize,
-    pub(crate) count: usize,
+    pub(crate) from: usize,
+    pub(crate) to: usize,
     pub(crate) at: usize,
 }
 
-fn moved(q: Request, count: usize, at: usize) -> Request {
+// The forms of the lines, in the order of the calls' numbers: `#` stands for a number, `@` for a list of bytes, a space for blanks.
+fn forms() -> [u8; 196] {
+    *b"run # on @into # = \n\
+    string # # on @into # = \n\
+    table # # into # = \n\
+    search into # = \n\
+    back_loop into # = \n\
+    forward_loop into # = \n\
+    counts = \n\
+    entries = \n\
+    window # # on @= \n\
+    check # # # # # # on @= \n\
+    file @\n"
+}
+
+// The place after blanks, or after the byte of a form itself.
+fn place(form: u8, line: &[u8], at: usize) -> usize {
+    if form == b' ' {
+        return blanks(line, at);
+    }
+    after(line, at, form)
+}
+
+// Reads what one byte of a form stands for. A list has only bytes below those of `=` and of letters.
+fn sign(form: u8, line: &[u8], q: Request) -> Request {
+    if form == b'#' {
+        let v = number(line, q.at);
+        return Request {
+            call: q.call,
+            a: q.b,
+            b: q.c,
+            c: q.d,
+            d: q.e,
+            e: q.f,
+            f: v.value,
+            from: q.from,
+            to: q.to,
+            at: v.next,
+        };
+    }
+    if form == b'@' {
+        let to = above(line, q.at, b'<');
+        return Request {
+            call: q.call,
+            a: q.a,
+            b: q.b,
+            c: q.c,
+            d: q.d,
+            e: q.e,
+            f: q.f,
+            from: q.at,
+            to: to,
+            at: to,
+        };
+    }
+    let at = place(form, line, q.at);
     Request {
         call: q.call,
         a: q.a,
@@ -49,45 +108,15 @@ fn moved(q: Request, count: usize, at: usize) -> Request {
         d: q.d,
         e: q.e,
         f: q.f,
-        count,
+        from: q.from,
+        to: q.to,
         at,
     }
 }
 
-// One number more.
-fn more(q: Request, value: usize, at: usize) -> Request {
-    Request {
-        call: q.call,
-        a: q.b,
-        b: q.c,
-        c: q.d,
-        d: q.e,
-        e: q.f,
-        f: value,
-        count: q.count,
-        at,
-    }
-}
-
-// What one byte of a form stands for: `#` for a number, `@` for a list of bytes, a space for blanks, any other byte for itself.
-fn sign(form: u8, line: &[u8], q: Request, input: &mut [u8]) -> Request {
-    if form == b'#' {
-        let v = number(line, q.at);
-        return more(q, v.value, v.next);
-    }
-    if form == b'@' {
-        let l = list(line, q.at, input);
-        return moved(q, l.count, l.next);
-    }
-    if form == b' ' {
-        return moved(q, q.count, blanks(line, q.at));
-    }
-    moved(q, q.count, after(line, q.at, form))
-}
-
-// A call of which nothing is read yet.
-fn unread(call: usize, at: usize) -> Request {
-    Request {
+// Reads a line by the form that begins at `from`.
+fn by_form(forms: &[u8], from: usize, call: usize, line: &[u8]) -> Request {
+    let mut q = Request {
         call,
         a: 0,
         b: 0,
@@ -95,60 +124,41 @@ fn unread(call: usize, at: usize) -> Request {
         d: 0,
         e: 0,
         f: 0,
-        count: 0,
-        at,
-    }
-}
-
-// Reads the line by the form that begins at a place of `forms`.
-fn by_form(forms: &[u8], from: usize, call: usize, line: &[u8], input: &mut [u8]) -> Request {
-    let mut q = unread(call, 0);
+        from: 0,
+        to: 0,
+        at: 0,
+    };
     let mut i = from;
     while i < forms.len() {
         if forms[i] == b'\n' {
             return q;
         }
-        let next = sign(forms[i], line, q, input);
+        let next = sign(forms[i], line, q);
         q = next;
         i += 1;
     }
     q
 }
 
-// The first of the forms by which a line can be read.
-fn first_form(forms: &[u8], line: &[u8], input: &mut [u8]) -> Request {
+// The number of the call whose name begins as the line does, two letters tell the names apart; FILE where there is none.
+fn named(forms: &[u8], line: &[u8]) -> usize {
     let mut from = 0;
     let mut call = 0;
-    while from < forms.len() {
-        let q = by_form(forms, from, call, line, input);
-        if q.at != NOWHERE {
-            return q;
+    while call < FILE {
+        if byte(forms, from) == byte(line, 0) {
+            if byte(forms, one_more(from)) == byte(line, 1) {
+                return call;
+            }
         }
-        let next = next_line(forms, from);
-        if next <= from {
-            return q;
-        }
-        from = next;
-        call = one_more(call);
+        from = next_line(forms, from);
+        call += 1;
     }
-    unread(call, NOWHERE)
+    call
 }
 
-// What a line asks for. The forms stand in the order of the calls' numbers.
-pub(crate) fn asked(line: &[u8], input: &mut [u8]) -> Request {
-    first_form(
-        b"run # on @ into # = \n\
-        string # # on @ into # = \n\
-        table # # into # = \n\
-        search into # = \n\
-        search_back into # = \n\
-        search_forward into # = \n\
-        counts = \n\
-        entries = \n\
-        window # # on @ = \n\
-        check # # # # # # on @ = \n\
-        file @ \n",
-        line,
-        input,
-    )
+// What a line asks for.
+pub(crate) fn asked(line: &[u8]) -> Request {
+    let forms = forms();
+    let call = named(&forms, line);
+    by_form(&forms, form_at(&forms, call), call, line)
 }

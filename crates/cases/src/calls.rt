@@ -7,77 +7,144 @@ use crate::pair;
 use values::LoopedPair;
 use values::Window;
 
-fn form(form: usize, a: usize, b: usize, c: usize) -> Got {
-    Got { form, a, b, c }
-}
-
-fn counts(file: &[u8]) -> Got {
+pub(crate) fn counts(file: &[u8]) -> Got {
     match coder::counts(file) {
-        coder::Header::Refused(k) => form(got::REFUSED, k, 0, 0),
+        coder::Header::Refused(k) => Got {
+            form: got::REFUSED,
+            a: k,
+            b: 0,
+            c: 0,
+        },
         coder::Header::Counts {
             states,
             inputs,
             outputs,
-        } => form(got::CODER, states, inputs, outputs),
+        } => Got {
+            form: got::CODER,
+            a: states,
+            b: inputs,
+            c: outputs,
+        },
     }
 }
 
 fn run(file: &[u8], start: usize, input: &[u8], lent: &mut [u8]) -> Got {
     match running::run(file, start, input, lent) {
-        running::RunResult::Refused(k) => form(got::REFUSED_BUFFER, k, 0, 0),
-        running::RunResult::Done { count, end } => form(got::RAN, count, end, 0),
+        running::RunResult::Refused(k) => Got {
+            form: got::REFUSED_BUFFER,
+            a: k,
+            b: 0,
+            c: 0,
+        },
+        running::RunResult::Done { count, end } => Got {
+            form: got::RAN,
+            a: count,
+            b: end,
+            c: 0,
+        },
     }
+}
+
+fn wide(b: u8) -> usize {
+    b as usize
 }
 
 fn answer(a: fitting::Answer) -> Got {
     match a {
-        fitting::Answer::Letter(x) => form(got::LETTER, x as usize, 0, 0),
-        fitting::Answer::None => form(got::NONE, 0, 0, 0),
-        fitting::Answer::Several => form(got::SEVERAL, 0, 0, 0),
+        fitting::Answer::Letter(x) => Got {
+            form: got::LETTER,
+            a: wide(x),
+            b: 0,
+            c: 0,
+        },
+        fitting::Answer::None => Got {
+            form: got::NONE,
+            a: 0,
+            b: 0,
+            c: 0,
+        },
+        fitting::Answer::Several => Got {
+            form: got::SEVERAL,
+            a: 0,
+            b: 0,
+            c: 0,
+        },
     }
 }
 
 fn window(file: &[u8], w: Window, received: &[u8]) -> Got {
     match decoder::window(file, w, received) {
-        decoder::WindowResult::Refused(k) => form(got::REFUSED, k, 0, 0),
+        decoder::WindowResult::Refused(k) => Got {
+            form: got::REFUSED,
+            a: k,
+            b: 0,
+            c: 0,
+        },
         decoder::WindowResult::Answered(a) => answer(a),
     }
 }
 
 fn counted(r: decoder::CountResult) -> Got {
     match r {
-        decoder::CountResult::Refused(k) => form(got::REFUSED_BUFFER, k, 0, 0),
-        decoder::CountResult::Done { count } => form(got::COUNTED, count, 0, 0),
+        decoder::CountResult::Refused(k) => Got {
+            form: got::REFUSED_BUFFER,
+            a: k,
+            b: 0,
+            c: 0,
+        },
+        decoder::CountResult::Done { count } => Got {
+            form: got::COUNTED,
+            a: count,
+            b: 0,
+            c: 0,
+        },
     }
 }
 
 // The search. Of a looped pair its form says whether what is fixed of it holds; or, where one loop is asked for, how long that is.
 fn search(file: &[u8], asked: usize, lent: &mut [u8]) -> Got {
     match search::search(file, lent) {
-        search::SearchResult::Refused(k) => form(got::REFUSED_BUFFER, k, 0, 0),
+        search::SearchResult::Refused(k) => Got {
+            form: got::REFUSED_BUFFER,
+            a: k,
+            b: 0,
+            c: 0,
+        },
         search::SearchResult::Found(v) => match v {
-            search::Verdict::Least(w) => form(got::LEAST, w.before, w.after, 0),
-            search::Verdict::NoDecoder(p) => {
-                if asked == asking::SEARCH_BACK {
-                    return form(got::BACK, p.back_loop, 0, 0);
-                }
-                if asked == asking::SEARCH_FORWARD {
-                    return form(got::FORWARD, p.forward_loop, 0, 0);
-                }
-                form(pair::form(file, p, lent), 0, 0, 0)
-            }
+            search::Verdict::Least(w) => Got {
+                form: got::LEAST,
+                a: w.before,
+                b: w.after,
+                c: 0,
+            },
+            search::Verdict::NoDecoder(p) => { pair::got(file, asked, p, lent) }
         },
     }
 }
 
-fn check(file: &[u8], p: LoopedPair, letters: &[u8]) -> Got {
+pub(crate) fn check(file: &[u8], p: LoopedPair, letters: &[u8]) -> Got {
     match checker::check(file, p, letters) {
-        checker::CheckResult::Refused(k) => form(got::REFUSED, k, 0, 0),
+        checker::CheckResult::Refused(k) => Got {
+            form: got::REFUSED,
+            a: k,
+            b: 0,
+            c: 0,
+        },
         checker::CheckResult::Checked(valid) => {
             if valid {
-                return form(got::YES, 0, 0, 0);
+                return Got {
+                    form: got::YES,
+                    a: 0,
+                    b: 0,
+                    c: 0,
+                };
             }
-            form(got::NO, 0, 0, 0)
+            Got {
+                form: got::NO,
+                a: 0,
+                b: 0,
+                c: 0,
+            }
         }
     }
 }
@@ -105,7 +172,12 @@ fn plain(q: Request, file: &[u8], input: &[u8]) -> Got {
         };
         return check(file, p, input);
     }
-    form(got::BYTES, 0, 0, 0)
+    Got {
+        form: got::BYTES,
+        a: 0,
+        b: 0,
+        c: 0,
+    }
 }
 
 // A call with its lent buffer.
@@ -123,7 +195,7 @@ pub(crate) fn make(q: Request, file: &[u8], input: &[u8], lent: &mut [u8]) -> Go
     if q.call == asking::TABLE {
         return counted(decoder::table(file, w, lent));
     }
-    if q.call <= asking::SEARCH_FORWARD {
+    if q.call <= asking::FORWARD_LOOP {
         return search(file, q.call, lent);
     }
     plain(q, file, input)

@@ -1,6 +1,6 @@
 // What a call gave, its text, and whether it is the expected one.
 use crate::reading::NOWHERE;
-use crate::reading::next_line;
+use crate::reading::form_at;
 
 pub(crate) const REFUSED: usize = 0;
 
@@ -40,6 +40,12 @@ pub(crate) const FORWARD: usize = 17;
 
 pub(crate) const UNREADABLE: usize = 18;
 
+pub(crate) const CASE: usize = 19;
+
+pub(crate) const TOTAL: usize = 20;
+
+pub(crate) const LONG: usize = 21;
+
 // The number of a form, and the numbers that stand in it.
 pub(crate) struct Got {
     pub(crate) form: usize,
@@ -49,7 +55,7 @@ pub(crate) struct Got {
 }
 
 // The forms, in the order of their numbers: `#` stands for a space and a number, `@` for a list of bytes with a space before each.
-fn forms() -> [u8; 325] {
+fn forms() -> [u8; 384] {
     *b"refused#\n\
     refused#, buffer@\n\
     coder###\n\
@@ -68,18 +74,10 @@ fn forms() -> [u8; 325] {
     no decoder, but bytes past the letters changed\n\
     back loop#\n\
     forward loop#\n\
-    cannot be read\n"
-}
-
-// The place at which a form begins.
-fn form_at(forms: &[u8], form: usize) -> usize {
-    let mut at = 0;
-    let mut k = 0;
-    while k < form {
-        at = next_line(forms, at);
-        k += 1;
-    }
-    at
+    cannot be read\n\
+    case#: \n\
+    cases#, differ#\n\
+    the text has more than 65535 bytes\n"
 }
 
 // The place after the bytes that equal the one at `at`.
@@ -213,4 +211,9 @@ pub(crate) fn text(g: Got, bytes: &[u8], line: &[u8], at: usize, say: bool) -> u
 
 fn wide(b: u8) -> usize {
     b as usize
+}
+
+// Writes the text of a form.
+pub(crate) fn say(form: usize, a: usize, b: usize) {
+    text(Got { form, a, b, c: 0 }, b"", b"", 0, true);
 }

@@ -24,99 +24,117 @@ struct State {
     differ: usize,
 }
 
-fn say(text: &[u8]) {
-    io::write_all(1, text);
-}
-
 // Writes a case with its number, and what its call gave.
 fn differs(number: usize, line: &[u8], g: Got, bytes: &[u8]) -> bool {
-    say(b"case ");
-    io::print_decimal(1, number as u64);
-    say(b": ");
-    say(line);
-    say(b" | ");
-    got::text(g, bytes, b"", 0, true);
-    say(b"\n");
+    got::say(got::CASE, number, 0);
+    io::write_all(1, line);
+    io::write_all(1, b" | ");
+    got::text(g, bytes, line, 0, true);
+    io::write_all(1, b"\n");
     false
-}
-
-fn unreadable(number: usize, line: &[u8]) -> bool {
-    let g = Got {
-        form: got::UNREADABLE,
-        a: 0,
-        b: 0,
-        c: 0,
-    };
-    differs(number, line, g, b"")
 }
 
 // How many bytes are lent to a call.
 fn size(q: Request) -> usize {
-    if q.call <= asking::SEARCH_FORWARD {
+    if q.call <= asking::FORWARD_LOOP {
         return q.f;
     }
     0
 }
 
-// Whether a call gives what its line expects; it is written where it does not.
+// Whether a call gives what its line expects from the place `at` on; it is written where it does not.
 fn holds(number: usize, line: &[u8], at: usize, g: Got, bytes: &[u8]) -> bool {
     if got::text(g, bytes, line, at, false) == line.len() {
         return true;
     }
+    if at == NOWHERE {
+        let none = Got {
+            form: got::UNREADABLE,
+            a: 0,
+            b: 0,
+            c: 0,
+        };
+        return differs(number, line, none, b"");
+    }
     differs(number, line, g, bytes)
+}
+
+// The bytes that a call is given, put into a buffer; how many they are.
+fn bytes(q: Request, line: &[u8], into: &mut [u8]) -> usize {
+    if q.from == 0 {
+        return 0;
+    }
+    list(part(line, q.from, q.to), into)
+}
+
+// The place of what a line expects; NOWHERE where the line, the file of n bytes, or the m bytes of the call could not be read, or where the
+// lent buffer would be too large.
+fn place(q: Request, n: usize, m: usize) -> usize {
+    if n == NOWHERE {
+        return NOWHERE;
+    }
+    if m == NOWHERE {
+        return NOWHERE;
+    }
+    if 65537 < size(q) {
+        return NOWHERE;
+    }
+    q.at
 }
 
 // Makes a call, which is lent the front of the buffer.
 fn make(
     number: usize,
     line: &[u8],
+    at: usize,
     q: Request,
     file: &[u8],
     input: &[u8],
     buffer: &mut [u8],
 ) -> bool {
     let n = size(q);
-    if q.at == NOWHERE {
-        return unreadable(number, line);
-    }
     if buffer.len() < n {
-        return unreadable(number, line);
+        return holds(
+            number,
+            line,
+            NOWHERE,
+            Got {
+                form: got::UNREADABLE,
+                a: 0,
+                b: 0,
+                c: 0,
+            },
+            file,
+        );
     }
     let lent = &mut buffer[0..n];
     let g = calls::make(q, file, input, lent);
     if q.call == asking::ENTRIES {
-        return holds(number, line, q.at, g, coder::entries(file));
+        return holds(number, line, at, g, coder::entries(file));
     }
-    holds(number, line, q.at, g, lent)
+    holds(number, line, at, g, lent)
 }
 
-// Every byte of the buffer is 238 before the call.
-fn lend(number: usize, line: &[u8], q: Request, file: &[u8], input: &[u8]) -> bool {
+// Every byte of the lent buffer is 238.
+fn lend(number: usize, line: &[u8], at: usize, q: Request, file: &[u8], input: &[u8]) -> bool {
     let mut buffer = [238u8; 65537];
-    make(number, line, q, file, input, &mut buffer)
+    make(number, line, at, q, file, input, &mut buffer)
 }
 
-// A case, on the file that the line `given` gives; or a line that gives a file.
+// A case, on the file that the line `given` gives after its first five bytes.
 fn case(number: usize, line: &[u8], given: &[u8]) -> bool {
     let mut file = [0u8; 1024];
     let mut input = [0u8; 1024];
-    let q = asking::asked(line, &mut input);
-    if q.call == asking::FILE {
-        if q.at == line.len() {
-            return true;
-        }
-        return unreadable(number, line);
-    }
-    let l = list(given, 4, &mut file);
-    if l.next == NOWHERE {
-        return unreadable(number, line);
-    }
+    let q = asking::asked(line);
+    let n = list(part(given, 5, given.len()), &mut file);
+    let m = bytes(q, line, &mut input);
     lend(
         number,
         line,
+        place(q, n, m),
         q,
-        part(&file, 0, l.count),
-        part(&input, 0, q.count),
+        part(&file, 0, n),
+        part(&input, 0, m),
     )
 }
 
@@ -136,13 +154,21 @@ fn passed_over(first: u8) -> bool {
     first == b'#'
 }
 
+// Whether a line gives a file. Where its list cannot be read, no case on it can.
+fn gives_file(line: &[u8]) -> bool {
+    let q = asking::asked(line);
+    if q.call == asking::FILE {
+        return q.at == line.len();
+    }
+    false
+}
+
 // One line.
 fn step(text: &[u8], s: State) -> State {
     let end = line_end(text, s.at);
     let line = part(text, s.at, end);
     let next = one_more(end);
-    let first = byte(line, 0);
-    if passed_over(first) {
+    if passed_over(byte(line, 0)) {
         return State {
             at: next,
             from: s.from,
@@ -151,16 +177,16 @@ fn step(text: &[u8], s: State) -> State {
             differ: s.differ,
         };
     }
-    let well = case(one_more(s.cases), line, part(text, s.from, s.to));
-    if first == b'f' {
+    if gives_file(line) {
         return State {
             at: next,
             from: s.at,
             to: end,
             cases: s.cases,
-            differ: counted(well, s.differ),
+            differ: s.differ,
         };
     }
+    let well = case(one_more(s.cases), line, part(text, s.from, s.to));
     State {
         at: next,
         from: s.from,
@@ -191,13 +217,12 @@ fn walk(text: &[u8]) -> State {
 
 // The last line. A text that fills its buffer may be cut off: that is one difference more.
 fn total(s: State, whole: bool) {
-    if whole {} else {
-        say(b"the text has more than 65535 bytes\n");
+    if whole {
+        got::say(got::TOTAL, s.cases, s.differ);
+    } else {
+        got::say(got::LONG, 0, 0);
     }
-    io::print_decimal(1, s.cases as u64);
-    say(b" cases, ");
-    io::print_decimal(1, counted(whole, s.differ) as u64);
-    say(b" differ\n");
+    io::write_all(1, b"\n");
 }
 
 fn main() {

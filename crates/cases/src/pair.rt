@@ -1,65 +1,33 @@
 // What is fixed of the looped pair that a search gives; which pair it is, is left open.
+use crate::asking;
+use crate::calls;
 use crate::got;
+use crate::got::Got;
 use crate::got::run_end;
+use crate::reading::NOWHERE;
 use crate::reading::part;
 use values::LoopedPair;
 
-// Whether x + y is at most `most`.
-fn fits(x: usize, y: usize, most: usize) -> bool {
+// x + y, or NOWHERE where that is above `most`.
+fn sum(x: usize, y: usize, most: usize) -> usize {
     if x <= most {
-        return y <= most - x;
+        if y <= most - x {
+            return x + y;
+        }
     }
-    false
+    NOWHERE
 }
 
 // N × N, of a coder with N states; 0 of a refused file.
 fn square(file: &[u8]) -> usize {
-    match coder::counts(file) {
-        coder::Header::Refused(_) => 0,
-        coder::Header::Counts {
-            states,
-            inputs: _,
-            outputs: _,
-        } => {
-            if 16 < states {
-                return 0;
-            }
-            states * states
-        }
-    }
-}
-
-// Whether back loop and lead-in have at most `most` letters together, and lead-out and forward loop too.
-fn bounded(p: LoopedPair, most: usize) -> bool {
-    if fits(p.back_loop, p.lead_in, most) {
-        return fits(p.lead_out, p.forward_loop, most);
-    }
-    false
-}
-
-// The number of bytes of a pair, two for each letter; 0 where a part has more than 256 letters.
-fn size(p: LoopedPair) -> usize {
-    let b = p.back_loop;
-    let i = p.lead_in;
-    let o = p.lead_out;
-    let f = p.forward_loop;
-    if b <= 256 {
-        if i <= 256 {
-            if o <= 256 {
-                if f <= 256 {
-                    return 2 * (b + i + 1 + o + f);
-                }
-            }
+    let g = calls::counts(file);
+    let n = g.a;
+    if g.form == got::CODER {
+        if n <= 16 {
+            return n * n;
         }
     }
     0
-}
-
-fn checked(file: &[u8], p: LoopedPair, letters: &[u8]) -> bool {
-    match checker::check(file, p, letters) {
-        checker::CheckResult::Refused(_) => false,
-        checker::CheckResult::Checked(valid) => valid,
-    }
 }
 
 // Whether the bytes from place n on are as they were lent.
@@ -73,18 +41,52 @@ fn kept(lent: &[u8], n: usize) -> bool {
     true
 }
 
-// The form of a pair: the checker says yes to it, with the letters at the front of the buffer, both bounds hold, and the bytes past the
-// letters are as they were lent; or the first of these that fails.
-pub(crate) fn form(file: &[u8], p: LoopedPair, lent: &[u8]) -> usize {
-    let n = size(p);
-    if checked(file, p, part(lent, 0, n)) {
-        if bounded(p, square(file)) {
-            if kept(lent, n) {
-                return got::PAIR;
-            }
-            return got::PAIR_PAST;
-        }
+// The form of a pair: back loop and lead-in have at most N × N letters together, and so have lead-out and forward loop; the checker says
+// yes to it, with the letters at the front of the buffer; and the bytes past the letters are as they were lent; or the first of these
+// that fails.
+fn form(file: &[u8], p: LoopedPair, lent: &[u8]) -> usize {
+    let most = square(file);
+    let b = sum(p.back_loop, p.lead_in, most);
+    let f = sum(p.lead_out, p.forward_loop, most);
+    if 256 < b {
         return got::PAIR_LONG;
     }
-    got::PAIR_WRONG
+    if 256 < f {
+        return got::PAIR_LONG;
+    }
+    let n = 2 * (b + 1 + f);
+    let g = calls::check(file, p, part(lent, 0, n));
+    if g.form != got::YES {
+        return got::PAIR_WRONG;
+    }
+    if kept(lent, n) {
+        return got::PAIR;
+    }
+    got::PAIR_PAST
+}
+
+// What a search gives that finds a pair; or the length of one loop, where that is asked for.
+pub(crate) fn got(file: &[u8], asked: usize, p: LoopedPair, lent: &[u8]) -> Got {
+    if asked == asking::BACK_LOOP {
+        return Got {
+            form: got::BACK,
+            a: p.back_loop,
+            b: 0,
+            c: 0,
+        };
+    }
+    if asked == asking::FORWARD_LOOP {
+        return Got {
+            form: got::FORWARD,
+            a: p.forward_loop,
+            b: 0,
+            c: 0,
+        };
+    }
+    Got {
+        form: form(file, p, lent),
+        a: 0,
+        b: 0,
+        c: 0,
+    }
 }

@@ -8,17 +8,11 @@ pub(crate) struct Value {
     pub(crate) next: usize,
 }
 
-// The number of bytes of a list, and the place after it.
-pub(crate) struct Bytes {
-    pub(crate) count: usize,
-    pub(crate) next: usize,
-}
-
 // A byte, how many times it stands there, and the place after it.
-pub(crate) struct Item {
-    pub(crate) byte: usize,
-    pub(crate) times: usize,
-    pub(crate) next: usize,
+struct Item {
+    byte: usize,
+    times: usize,
+    next: usize,
 }
 
 // The bytes from one place to another; none where there are no such places.
@@ -75,18 +69,32 @@ pub(crate) fn next_line(text: &[u8], at: usize) -> usize {
     one_more(line_end(text, at))
 }
 
-// The first place from `at` on that holds neither a space nor the end of a line.
-pub(crate) fn blanks(line: &[u8], at: usize) -> usize {
+// The place at which a form begins, by its number: each form is a line.
+pub(crate) fn form_at(forms: &[u8], form: usize) -> usize {
+    let mut at = 0;
+    let mut k = 0;
+    while k < form {
+        at = next_line(forms, at);
+        k += 1;
+    }
+    at
+}
+
+// The first place from `at` on that holds a byte above `most`.
+pub(crate) fn above(line: &[u8], at: usize, most: u8) -> usize {
     let mut i = at;
     while i < line.len() {
-        if line[i] != b' ' {
-            if line[i] != b'\n' {
-                return i;
-            }
+        if most < line[i] {
+            return i;
         }
         i += 1;
     }
     i
+}
+
+// The first place from `at` on that holds neither a space nor the end of a line.
+pub(crate) fn blanks(line: &[u8], at: usize) -> usize {
+    above(line, at, b' ')
 }
 
 // What a digit stands for, 10 for any other byte.
@@ -129,9 +137,9 @@ pub(crate) fn number(line: &[u8], at: usize) -> Value {
     read(value, at, i)
 }
 
-// `v` or `v*n`, with blanks in front of it.
-pub(crate) fn run(line: &[u8], at: usize) -> Item {
-    let v = number(line, blanks(line, at));
+// `v` or `v*n`.
+fn run(line: &[u8], at: usize) -> Item {
+    let v = number(line, at);
     let star = after(line, v.next, b'*');
     if star == NOWHERE {
         return Item {
@@ -167,53 +175,39 @@ fn fill(into: &mut [u8], at: usize, times: usize, byte: u8) -> usize {
     p
 }
 
-// The runs of a list, up to the first place where none follows.
-fn runs(line: &[u8], at: usize, into: &mut [u8]) -> Bytes {
+// The runs of a list, from the place `at` on, put into a buffer; how many bytes they are.
+fn runs(text: &[u8], at: usize, into: &mut [u8]) -> usize {
     let mut n = 0;
     let mut i = at;
-    while i < line.len() {
-        let x = run(line, i);
-        let next = x.next;
-        if line.len() < next {
-            return Bytes { count: n, next: i };
+    while i < text.len() {
+        let x = run(text, i);
+        let next = blanks(text, x.next);
+        if 255 < x.byte {
+            return NOWHERE;
         }
         if next <= i {
-            return Bytes { count: n, next: i };
-        }
-        if 255 < x.byte {
-            return Bytes {
-                count: NOWHERE,
-                next: i,
-            };
+            return NOWHERE;
         }
         let m = fill(into, n, x.times, low(x.byte));
         n = m;
         i = next;
     }
-    Bytes { count: n, next: i }
+    if i == text.len() {
+        return n;
+    }
+    NOWHERE
 }
 
-// A list of bytes, put into a buffer: its runs, or `-` for none.
-pub(crate) fn list(line: &[u8], at: usize, into: &mut [u8]) -> Bytes {
-    let none = after(line, blanks(line, at), b'-');
-    if none != NOWHERE {
-        return Bytes {
-            count: 0,
-            next: none,
-        };
+// A list of bytes, which is the whole text, put into a buffer: its runs, or `-` for none. How many bytes it has; NOWHERE where it cannot
+// be read.
+pub(crate) fn list(text: &[u8], into: &mut [u8]) -> usize {
+    let at = blanks(text, 0);
+    if blanks(text, after(text, at, b'-')) == text.len() {
+        return 0;
     }
-    let l = runs(line, at, into);
-    if l.count == 0 {
-        return Bytes {
-            count: 0,
-            next: NOWHERE,
-        };
+    let n = runs(text, at, into);
+    if n == 0 {
+        return NOWHERE;
     }
-    if into.len() < l.count {
-        return Bytes {
-            count: 0,
-            next: NOWHERE,
-        };
-    }
-    l
+    n
 }

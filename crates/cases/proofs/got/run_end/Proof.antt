@@ -1,11 +1,9 @@
+-- `run_end` reads within the bytes. It stands at i, from `at` on.
 use Prim.Native.Nat.{_-_, _≤_}
 use lib.ListN.{length}
 use borrow.Author.Needs.{needs}
-use native.Mathlib.Omega.{arith}
 use Rattle.cases.proofs.got.run_end.Statement.{statement}
 use Rattle.cases.proofs.got.run_end.Tie as tie
-use Rattle.cases.proofs.got.run_end.Reads as reads
-use Rattle.cases.proofs.got.run_end.Lts as lts
 
 abbrev Inv-loop : tie.InvT-loop
 Inv-loop bytes at i₀ i = at ≤ i
@@ -13,35 +11,27 @@ Inv-loop bytes at i₀ i = at ≤ i
 abbrev μ-loop : tie.MeasureT-loop
 μ-loop bytes at i₀ i = length bytes - i
 
--- src/got.rt:93:5
 loop-holds : tie.Need-loop-holds Inv-loop μ-loop
 loop-holds c = search needs
 
--- src/got.rt:94:12
 shared-slice-read-if1 : tie.Need-shared-slice-read-if1 Inv-loop μ-loop
 shared-slice-read-if1 c = search needs
 
--- src/got.rt:94:24
 shared-slice-read-if1-2 : tie.Need-shared-slice-read-if1-2 Inv-loop μ-loop
 shared-slice-read-if1-2 c = search needs
 
--- src/got.rt:95:13
 returns : tie.Need-returns Inv-loop μ-loop
 returns c = search needs
 
--- src/got.rt:97:9
 add-i : tie.Need-add-i Inv-loop μ-loop
 add-i c = search needs
 
--- src/got.rt:93:5
 loop-less : tie.Need-loop-less Inv-loop μ-loop
 loop-less c = search needs
 
--- src/got.rt:93:5
 loop-again : tie.Need-loop-again Inv-loop μ-loop
 loop-again c = search needs
 
--- src/got.rt:91:1
 returns-2 : tie.Need-returns-2 Inv-loop μ-loop
 returns-2 c = search needs
 

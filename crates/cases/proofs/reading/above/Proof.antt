@@ -1,59 +1,45 @@
+-- `above` reads within the line. It stands at i, from `at` on.
 use Prim.Native.Nat.{_-_, _≤_}
 use lib.ListN.{length}
 use borrow.Author.Needs.{needs}
-use native.Mathlib.Omega.{arith}
-use Rattle.cases.proofs.reading.blanks.Statement.{statement}
-use Rattle.cases.proofs.reading.blanks.Tie as tie
-use Rattle.cases.proofs.reading.blanks.Reads as reads
-use Rattle.cases.proofs.reading.blanks.Lts as lts
+use Rattle.cases.proofs.reading.above.Statement.{statement}
+use Rattle.cases.proofs.reading.above.Tie as tie
 
 abbrev Inv-loop : tie.InvT-loop
-Inv-loop line at i₀ i = at ≤ i
+Inv-loop line at most i₀ i = at ≤ i
 
 abbrev μ-loop : tie.MeasureT-loop
-μ-loop line at i₀ i = length line - i
+μ-loop line at most i₀ i = length line - i
 
--- src/reading.rt:55:5
 loop-holds : tie.Need-loop-holds Inv-loop μ-loop
 loop-holds c = search needs
 
--- src/reading.rt:56:12
 shared-slice-read-if1 : tie.Need-shared-slice-read-if1 Inv-loop μ-loop
 shared-slice-read-if1 c = search needs
 
--- src/reading.rt:57:16
-shared-slice-read-if2 : tie.Need-shared-slice-read-if2 Inv-loop μ-loop
-shared-slice-read-if2 c = search needs
-
--- src/reading.rt:58:17
 returns : tie.Need-returns Inv-loop μ-loop
 returns c = search needs
 
--- src/reading.rt:61:9
 add-i : tie.Need-add-i Inv-loop μ-loop
 add-i c = search needs
 
--- src/reading.rt:55:5
 loop-less : tie.Need-loop-less Inv-loop μ-loop
 loop-less c = search needs
 
--- src/reading.rt:55:5
 loop-again : tie.Need-loop-again Inv-loop μ-loop
 loop-again c = search needs
 
--- src/reading.rt:53:1
 returns-2 : tie.Need-returns-2 Inv-loop μ-loop
 returns-2 c = search needs
 
-pub blanks-spec : {M : Type 1} → statement M
-blanks-spec =
+pub above-spec : {M : Type 1} → statement M
+above-spec =
     tie.close
     (tie.spec
     Inv-loop
     μ-loop
     loop-holds
     shared-slice-read-if1
-    shared-slice-read-if2
     returns
     add-i
     loop-less
