@@ -1,5 +1,4 @@
-// What a line asks for: a call with its arguments, or a file to keep.
-
+// What a line asks for: a call with its arguments, or a file to keep. A call's number is the place of its form among the forms.
 use crate::reading::above;
 use crate::reading::after;
 use crate::reading::blanks;

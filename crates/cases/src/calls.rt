@@ -45,15 +45,11 @@ fn run(file: &[u8], start: usize, input: &[u8], lent: &mut [u8]) -> Got {
     }
 }
 
-fn wide(b: u8) -> usize {
-    b as usize
-}
-
 fn answer(a: fitting::Answer) -> Got {
     match a {
         fitting::Answer::Letter(x) => Got {
             form: got::LETTER,
-            a: wide(x),
+            a: x as usize,
             b: 0,
             c: 0,
         },
@@ -195,6 +191,7 @@ pub(crate) fn make(q: Request, file: &[u8], input: &[u8], lent: &mut [u8]) -> Go
     if q.call == asking::TABLE {
         return counted(decoder::table(file, w, lent));
     }
+    // The search, and the two that ask for one loop of its pair.
     if q.call <= asking::FORWARD_LOOP {
         return search(file, q.call, lent);
     }

@@ -130,7 +130,7 @@ fn number(line: &[u8], at: usize, before: u8, n: usize, say: bool) -> usize {
 
 // A byte that stands n times: `v` or `v*n`.
 fn run(line: &[u8], at: usize, byte: u8, n: usize, say: bool) -> usize {
-    let next = number(line, at, b' ', wide(byte), say);
+    let next = number(line, at, b' ', byte as usize, say);
     if n == 1 {
         return next;
     }
@@ -207,10 +207,6 @@ fn by_form(
 pub(crate) fn text(g: Got, bytes: &[u8], line: &[u8], at: usize, say: bool) -> usize {
     let forms = forms();
     by_form(&forms, form_at(&forms, g.form), g, bytes, line, at, say)
-}
-
-fn wide(b: u8) -> usize {
-    b as usize
 }
 
 // Writes the text of a form.

@@ -67,16 +67,12 @@ fn bytes(q: Request, line: &[u8], into: &mut [u8]) -> usize {
     list(part(line, q.from, q.to), into)
 }
 
-// The place of what a line expects; NOWHERE where the line, the file of n bytes, or the m bytes of the call could not be read, or where the
-// lent buffer would be too large.
+// The place of what a line expects; NOWHERE where the line, the file of n bytes, or the m bytes of the call could not be read.
 fn place(q: Request, n: usize, m: usize) -> usize {
     if n == NOWHERE {
         return NOWHERE;
     }
     if m == NOWHERE {
-        return NOWHERE;
-    }
-    if 65537 < size(q) {
         return NOWHERE;
     }
     q.at
@@ -115,26 +111,22 @@ fn make(
     holds(number, line, at, g, lent)
 }
 
-// Every byte of the lent buffer is 238.
-fn lend(number: usize, line: &[u8], at: usize, q: Request, file: &[u8], input: &[u8]) -> bool {
-    let mut buffer = [238u8; 65537];
-    make(number, line, at, q, file, input, &mut buffer)
-}
-
-// A case, on the file that the line `given` gives after its first five bytes.
+// A case, on the file that the line `given` gives after its first five bytes. Every byte that is lent to its call is 238.
 fn case(number: usize, line: &[u8], given: &[u8]) -> bool {
     let mut file = [0u8; 1024];
     let mut input = [0u8; 1024];
+    let mut buffer = [238u8; 65537];
     let q = asking::asked(line);
     let n = list(part(given, 5, given.len()), &mut file);
     let m = bytes(q, line, &mut input);
-    lend(
+    make(
         number,
         line,
         place(q, n, m),
         q,
         part(&file, 0, n),
         part(&input, 0, m),
+        &mut buffer,
     )
 }
 

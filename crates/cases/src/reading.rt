@@ -1,5 +1,5 @@
-// What stands in a line: words, numbers and lists of bytes. A place is an index of the line; one past every line, NOWHERE, says that
-// something could not be read, and what is read from there on cannot be read either.
+// Lines, and the numbers and lists of bytes in them. A place is an index of a text; one past every text, NOWHERE, says that something could
+// not be read, and what is read from there on cannot be read either.
 pub(crate) const NOWHERE: usize = 18446744073709551615;
 
 // A number, and the place after it.
@@ -43,6 +43,7 @@ pub(crate) fn after(line: &[u8], at: usize, b: u8) -> usize {
     NOWHERE
 }
 
+// One more, up to 65,536, the most bytes that a text has.
 pub(crate) fn one_more(n: usize) -> usize {
     if n < 65536 {
         return n + 1;
@@ -156,10 +157,6 @@ fn run(line: &[u8], at: usize) -> Item {
     }
 }
 
-fn low(n: usize) -> u8 {
-    (n % 256) as u8
-}
-
 // The same byte so many times from the place `at` on, and the place after them.
 fn fill(into: &mut [u8], at: usize, times: usize, byte: u8) -> usize {
     let mut p = at;
@@ -188,7 +185,7 @@ fn runs(text: &[u8], at: usize, into: &mut [u8]) -> usize {
         if next <= i {
             return NOWHERE;
         }
-        let m = fill(into, n, x.times, low(x.byte));
+        let m = fill(into, n, x.times, (x.byte % 256) as u8);
         n = m;
         i = next;
     }

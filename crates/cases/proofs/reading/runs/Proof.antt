@@ -33,8 +33,8 @@ same-length-2 c = search needs
 returns-2 : tie.Need-returns-2 Inv-loop μ-loop
 returns-2 c = search needs
 
-low-requires : tie.Need-low-requires Inv-loop μ-loop
-low-requires c κs = search needs
+cast-fill : tie.Need-cast-fill Inv-loop μ-loop
+cast-fill c = search needs
 
 fill-requires : tie.Need-fill-requires Inv-loop μ-loop
 fill-requires c κs = search needs
@@ -70,7 +70,7 @@ runs-spec =
     returns
     same-length-2
     returns-2
-    low-requires
+    cast-fill
     fill-requires
     loop-less
     loop-again
