@@ -8,7 +8,7 @@ use lib.ListN.{length, getD, take, drop}
 use lib.Seq.{take-at}
 use lib.Dec.{leb}
 use Rattle.mealy.specs.Machine.{outs, end}
-use Rattle.mealy.specs.Answer.{NoRun, Answers}
+use Rattle.mealy.specs.Answer.{Answers}
 use Rattle.mealy.proofs.Answers.{length-outs, none↔no-run}
 use Rattle.coder.specs.Refusal.{upon, answer}
 use Rattle.coder.specs.File.{fileRefusal, outputsOf, machineOf, settingOf}
@@ -36,9 +36,8 @@ use Rattle.search.specs.declared.Verdict.{Verdict}
 use Rattle.search.specs.declared.Verdict.the-variants.{Least, NoDecoder}
 use Rattle.search.proofs.Determined.{found, no-decoder-exactly}
 use Rattle.checker.specs.Check.{checkRefusal}
-use Rattle.layout.specs.Layout.{resultBytes}
 use Rattle.lowhenita.specs.Host.{roomy, Hosted}
-use Rattle.theorems.specs.Published.{longEnough, givenRun, givenSearch, givenResult}
+use Rattle.theorems.specs.Published.{longEnough, givenResult}
 use Rattle.theorems.specs.Demands.{Demand1, Demand2, Demand3, Demanded, FromC}
 use Rattle.theorems.proofs.Published.{file-published, run-published, search-published, check-published, window-published, string-published, table-published}
 use Rattle.theorems.proofs.Handing.{search-found, run-handed, search-handed, decode-handed, table-handed, check-handed, window-handed}

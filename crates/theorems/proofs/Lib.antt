@@ -6,4 +6,5 @@ pub mod HostRoundTrip
 pub mod Tests
 pub mod Starred
 pub mod SearchChecked
+pub mod TableShows
 pub mod Demands

@@ -35,7 +35,7 @@ pub letters-test : (n : ℕ) (xs : List ℕ) → Letters n xs → lettersBelow n
 letters-test n [] l = refl
 letters-test n (x ∷ xs) l = rw (lt-ltb x n (l .0)) (letters-test n xs (l .1))
 
-outs-letters : (M : Machine) (n : ℕ) → ((s i : ℕ) → M .out s i < n) → (s : ℕ) (xs : List ℕ) → Letters n (outs M s xs)
+pub outs-letters : (M : Machine) (n : ℕ) → ((s i : ℕ) → M .out s i < n) → (s : ℕ) (xs : List ℕ) → Letters n (outs M s xs)
 outs-letters M n h s [] = tt
 outs-letters M n h s (x ∷ xs) = (h s x, outs-letters M n h (M .next s x) xs)
 

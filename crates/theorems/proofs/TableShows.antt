@@ -1,0 +1,137 @@
+-- A decoder table shows whether its window works: it does exactly where no byte of the table is 255.
+use mathlib.Core.Path.{_≡_, refl, sym, ap, subst, _∙_}
+use mathlib.Core.Logic.{_↔_, _≢_}
+use mathlib.Core.Bool.{true}
+use mathlib.Core.List.{List}
+use Prim.Native.Nat.{ℕ, zero, suc, _+_, _<_, _≤_}
+use native.Mathlib.Omega.{arith}
+use lib.ListN.{length, getD}
+use Rattle.mealy.specs.Machine.{outs}
+use Rattle.mealy.specs.Setting.{Setting}
+use Rattle.mealy.specs.Window.{Works}
+use Rattle.mealy.specs.Answer.{Answer, letter, none, several, Two, Answers, byteOf}
+use Rattle.mealy.proofs.Letters.{letter-at}
+use Rattle.mealy.proofs.Answers.{length-outs, answer-unique}
+use Rattle.coder.specs.Refusal.{answer}
+use Rattle.coder.specs.File.{outputsOf, machineOf, settingOf}
+use Rattle.coder.proofs.Accepted.{Accepted, accepted}
+use Rattle.coder.proofs.Tables.{output-below}
+use Rattle.values.specs.Window.{size}
+use Rattle.values.specs.declared.Window.{Window}
+use Rattle.filling.specs.Table.{indexOf, windowAt}
+use Rattle.filling.proofs.Indices.{length-window, index-below, index-window}
+use Rattle.decoder.specs.Written.{Written}
+use Rattle.decoder.specs.Refusal.{tableSize}
+use Rattle.decoder.specs.Table.{EntryOf, tableRefusalIn, TablePromise}
+use Rattle.decoder.specs.declared.CountResult as count
+use Rattle.decoder.proofs.Accepting.{table-accepted}
+use Rattle.theorems.proofs.RoundTrip.{outs-letters}
+
+-- a table that was filled
+record Filled (f : List ℕ) (w : Window) (n : ℕ) (after : List ℕ) : Type 0 where
+  file : Accepted f
+  size-is : n ≡ tableSize (outputsOf f) w
+  each : (k : ℕ) → k < n → EntryOf f w k (getD after k 0)
+
+filled :
+    (f : List ℕ) (w : Window) (before : List ℕ) (n : ℕ) (after : List ℕ) →
+    TablePromise f w before (count.the-variants.Done n) after → Filled f w n after
+filled f w before n after p = go (tableRefusalIn f w (length before) true) refl
+  where
+    go : (k : ℕ) → tableRefusalIn f w (length before) true ≡ k → Filled f w n after
+    go zero e =
+        let d = rw e at (p .result) in
+        let q : n ≡ tableSize (outputsOf f) w = cc in
+        let written : Written (EntryOf f w) (tableSize (outputsOf f) w) before after = rw e at (p .bytes) in
+        record {
+          file = accepted f (table-accepted f w _ e .sides .file);
+          size-is = q;
+          each = λ k l. written .is k (rw q at l);
+        }
+    go (suc k) e = let d = rw e at (p .result) in let z : _≡_ {A = ℕ} 0 1 = cc in absurd (omega arith)
+
+-- 255 is the byte of "several" alone, where letters are below 16
+several-byte :
+    (S : Setting) (w : List ℕ) (b : ℕ) → S .M .inputs ≤ 16 → (v : Answer) → Answers S w b v → byteOf v ≡ 255 → Two S w b
+several-byte S w b l (letter x) h e =
+    let m = letter-at (S .M .inputs) (h .fits .xs) (h .fits .letters) b (h .fits .inside) in
+    absurd (omega (arith, h .fits .letter))
+several-byte S w b l none h e = absurd (omega arith)
+several-byte S w b l several h e = h
+
+-- two runs with the outputs of a window that works have one letter at its present place
+never-two :
+    (S : Setting) → ((i j : ℕ) → i ≢ j → S .Conflict i j) → (b a : ℕ) → Works S b a → (w : List ℕ) → length w ≡ b + 1 + a →
+    Two S w b → ⊥
+never-two S different b a works w long t =
+    let f = t .fits₁ in
+    let g = t .fits₂ in
+    works (f .s) (g .s) (f .xs) (g .xs) (f .start) (g .start)
+    (record {
+      letters₁ = f .letters;
+      letters₂ = g .letters;
+      length₁ = sym (length-outs (S .M) (f .s) (f .xs)) ∙ ap length (f .outputs) ∙ long;
+      length₂ = sym (length-outs (S .M) (g .s) (g .xs)) ∙ ap length (g .outputs) ∙ long;
+      outputs = f .outputs ∙ sym (g .outputs);
+    })
+    (different _ _ (λ e. t .differ (sym (f .letter) ∙ e ∙ g .letter)))
+
+module _ (f : List ℕ) (w : Window) (before : List ℕ) (n : ℕ) (after : List ℕ) (p : TablePromise f w before (count.the-variants.Done n) after) where
+  t : Filled f w n after
+  t = filled f w before n after p
+
+  inputs-high : machineOf f .inputs ≤ 16
+  unfolding machineOf
+  inputs-high = t .file .entries .limits .inputs-high
+
+  none-several : Works (settingOf f) (w .before) (w .after) → (k : ℕ) → k < n → getD after k 0 ≢ 255
+  none-several works k l e =
+      let part = windowAt (outputsOf f) (size w) k in
+      let r = t .each k l in
+      never-two (settingOf f) (λ i j d. d) (w .before) (w .after) works part (length-window (outputsOf f) (size w) k)
+      (several-byte (settingOf f) part (w .before) inputs-high (r .answer) (r .right) (sym (r .byte) ∙ e))
+
+  shows-works : ((k : ℕ) → k < n → getD after k 0 ≢ 255) → Works (settingOf f) (w .before) (w .after)
+  shows-works never s u xs ys start₁ start₂ equal differ =
+      let S = settingOf f in
+      let b = w .before in
+      let o = outs (machineOf f) s xs in
+      let long : length o ≡ size w = length-outs (machineOf f) s xs ∙ equal .length₁ in
+      let below = outs-letters (machineOf f) (outputsOf f) (output-below f (t .file)) s xs in
+      let k = indexOf (outputsOf f) o in
+      let small : k < tableSize (outputsOf f) w = rw long at (index-below (outputsOf f) o below) in
+      let l : k < n = rw (t .size-is) small in
+      let part : windowAt (outputsOf f) (size w) k ≡ o =
+      ap (λ (m : ℕ). windowAt (outputsOf f) m k) (sym long) ∙ index-window (outputsOf f) o below in
+      let two : Two S o b =
+      record {
+        x = getD xs b 0;
+        y = getD ys b 0;
+        fits₁ =
+            record {
+              s = s;
+              xs = xs;
+              start = start₁;
+              letters = equal .letters₁;
+              outputs = refl;
+              inside = omega (arith, equal .length₁);
+              letter = refl;
+            };
+        fits₂ =
+            record {
+              s = u;
+              xs = ys;
+              start = start₂;
+              letters = equal .letters₂;
+              outputs = sym (equal .outputs);
+              inside = omega (arith, equal .length₂);
+              letter = refl;
+            };
+        differ = differ;
+      } in
+      let r = t .each k l in
+      let right : Answers S o b (r .answer) = subst (λ (x : List ℕ). Answers S x b (r .answer)) part (r .right) in
+      never k l (r .byte ∙ ap byteOf (answer-unique S o b (r .answer) several right two))
+
+  pub table-shows : Works (settingOf f) (w .before) (w .after) ↔ ((k : ℕ) → k < n → getD after k 0 ≢ 255)
+  table-shows = (none-several, shows-works)
