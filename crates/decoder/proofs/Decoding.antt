@@ -4,6 +4,7 @@ use mathlib.Core.List.{List, _++_}
 use Prim.Native.Nat.{ℕ, _-_, _^_, _≤_, _<_}
 use lib.ListN.{length, take, drop}
 use Rattle.mealy.specs.Setting.{anyState}
+use Rattle.mealy.specs.Index.{windowAt}
 use Rattle.mealy.specs.Word.{Holds}
 use Rattle.coder.specs.File.{fileRefusal, outputsOf, machineOf, settingOf}
 use Rattle.coder.specs.Table.{coderOf, Sound}
@@ -18,7 +19,7 @@ use Rattle.chains.specs.Rows.{Rowed}
 use Rattle.fitting.specs.Answer.{Right, RightByte}
 use Rattle.fitting.specs.declared.Answer.{Answer}
 use Rattle.filling.specs.Sets.{RowsOf}
-use Rattle.filling.specs.Table.{windowAt, TableFilled}
+use Rattle.filling.specs.Table.{TableFilled}
 use Rattle.fitting.specs.Tables.{SetsOf, TablesOf}
 use Rattle.filling.specs.Window.{decoded}
 use Rattle.filling.proofs.Window.{decoded-right}

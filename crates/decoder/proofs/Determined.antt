@@ -8,13 +8,13 @@ use native.Mathlib.Omega.{arith}
 use lib.ListN.{length, take, drop, length-drop}
 use lib.Seq.{length-take-le}
 use Rattle.mealy.specs.Answer.{byteOf}
+use Rattle.mealy.specs.Index.{windowAt}
+use Rattle.mealy.proofs.Indices.{length-window}
 use Rattle.coder.specs.Refusal.{answer}
 use Rattle.coder.specs.File.{fileRefusal, outputsOf, settingOf}
 use Rattle.coder.specs.Table.{coderOf}
 use Rattle.fitting.specs.Answer.{meaning, RightByte}
-use Rattle.filling.specs.Table.{windowAt}
 use Rattle.filling.specs.Window.{decoded}
-use Rattle.filling.proofs.Indices.{length-window}
 use Rattle.fitting.proofs.Answers.{right-unique, right-byte, right-byte-unique}
 use Rattle.coder.specs.Refusal.{upon}
 use Rattle.values.specs.Window.{size}

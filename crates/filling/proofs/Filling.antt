@@ -12,6 +12,8 @@ use lib.Seq.{getD-take, getD-append-add, length-take-le, getD-set-same, getD-set
 use lib.Dec.{eqb, lit<}
 use borrow.Author.Count.{below-more}
 use borrow.Rule.Slice.PartMut.{midOf, postOf, putMid, same-len-mid}
+use Rattle.mealy.specs.Index.{windowAt}
+use Rattle.mealy.proofs.Indices.{length-window, window-digits}
 use Rattle.mealy.specs.Machine.{Machine}
 use Rattle.mealy.specs.Word.{Holds}
 use Rattle.mealy.specs.Answer.{byteOf}
@@ -26,11 +28,10 @@ use Rattle.fitting.specs.Answer.{meaning, ByteOf, answerOf}
 use Rattle.fitting.proofs.Answers.{byte-right}
 use Rattle.filling.specs.Runs.{Sets, SetAfter, From, EachWord, SetsIn, LetterAfter}
 use Rattle.filling.specs.Sets.{advance, startSets, RowsOf, RowsAsked}
-use Rattle.filling.specs.Table.{windowAt, FillAsked, TableFilled, PartAsked, PartFilled, LastAsked, LastFilled}
+use Rattle.filling.specs.Table.{FillAsked, TableFilled, PartAsked, PartFilled, LastAsked, LastFilled}
 use Rattle.filling.proofs.Steps.{startSet}
 use Rattle.filling.proofs.Sets.{advance-holds, sets-hold}
 use Rattle.filling.proofs.Runs.{WithinStates, from-after, after-from, from-all, all-from, from-map, startingSets, from-fits, fits-from}
-use Rattle.filling.proofs.Indices.{length-window, window-digits}
 
 byte-map :
     {P R : ℕ → Type 0} {v : ℕ} → ((x : ℕ) → P x → R x) → ((x : ℕ) → R x → P x) → ByteOf P v → ByteOf R v

@@ -2,7 +2,6 @@
 pub mod Steps
 pub mod Sets
 pub mod Runs
-pub mod Indices
 pub mod Sizes
 pub mod Filling
 pub mod Window

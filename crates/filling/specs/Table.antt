@@ -1,11 +1,12 @@
 -- The decoder table: a byte for each window, by its index.
 use mathlib.Core.Bool.{Bool, cond}
-use Prim.Native.Nat.{ℕ, zero, suc, _+_, _*_, _^_, _/_, _%_, _≤_, _<_}
+use Prim.Native.Nat.{ℕ, _^_, _≤_, _<_}
 use mathlib.Core.Path.{_≡_}
-use mathlib.Core.List.{List, [], _∷_}
+use mathlib.Core.List.{List}
 use lib.ListN.{length, getD}
 use lib.Dec.{leb}
 use Rattle.mealy.specs.Setting.{Setting}
+use Rattle.mealy.specs.Index.{windowAt}
 use Rattle.mealy.specs.Word.{Holds}
 use Rattle.coder.specs.Limits.{maxOutputs}
 use Rattle.coder.specs.Table.{machineOfCoder}
@@ -22,15 +23,6 @@ maxTable = 65536
 -- o to the power n, or 0 where that is more than a table may have
 abbrev pub sizeOf : ℕ → ℕ → ℕ
 sizeOf o n = cond (leb (o ^ n) maxTable) (o ^ n) 0
-
--- The index of a window and the window of an index, to base o: the first letter is the highest digit ("Decoding", last sentence).
-unfoldable pub indexOf : ℕ → List ℕ → ℕ
-indexOf o [] = 0
-indexOf o (x ∷ w) = x * o ^ length w + indexOf o w
-
-unfoldable pub windowAt : ℕ → ℕ → ℕ → List ℕ
-windowAt o zero k = []
-windowAt o (suc n) k = k / o ^ n ∷ windowAt o n (k % o ^ n)
 
 -- v is the right byte for the window of n letters with index k
 abbrev pub EntryAt : Setting → ℕ → ℕ → ℕ → ℕ → ℕ → Type 0

@@ -6,6 +6,7 @@ use mathlib.Core.List.{List, [], _∷_}
 use mathlib.Core.Logic.{_⊎_, inl, inr}
 use Prim.Native.Nat.{ℕ, zero, suc}
 use lib.ListN.{take, drop}
+use Rattle.mealy.specs.Index.{windowAt}
 use Rattle.mealy.specs.LoopedPair.{LoopedPair}
 use Rattle.mealy.proofs.LeastWindows.{least-unique}
 use Rattle.coder.specs.Refusal.{upon}
@@ -14,7 +15,6 @@ use Rattle.values.specs.Window.{size}
 use Rattle.values.specs.declared.Window.{Window}
 use Rattle.values.specs.declared.LoopedPair as values
 use Rattle.fitting.proofs.Answers.{right-byte-unique}
-use Rattle.filling.specs.Table.{windowAt}
 use Rattle.decoder.proofs.Writing.{written-unique}
 use Rattle.search.specs.Search.{order, Says, PairReport}
 use Rattle.search.proofs.Determined.{is-order}

@@ -15,6 +15,7 @@ pub mod PairWalks
 pub mod PairDecisions
 pub mod LoopedPairs
 pub mod Answers
+pub mod Indices
 pub mod Plain
 pub mod ComesBack
 pub mod Places

@@ -1,10 +1,11 @@
--- What the contracts cite: machines, runs, windows, the decoder's answer, the product machine, looped pairs, walks.
+-- What the contracts cite: machines, runs, windows, the decoder's answer, the index of a window, the product machine, looped pairs, walks.
 pub mod Machine
 pub mod Word
 pub mod Setting
 pub mod Window
 pub mod Order
 pub mod Answer
+pub mod Index
 pub mod Product
 pub mod LoopedPair
 pub mod Walk

@@ -12,6 +12,8 @@ use Rattle.mealy.specs.Machine.{outs, end}
 use Rattle.mealy.specs.Order.{FewestLetters, Least as LeastOf}
 use Rattle.mealy.specs.LoopedPair.{LoopedPair, Valid}
 use Rattle.mealy.specs.Answer.{byteOf}
+use Rattle.mealy.specs.Index.{windowAt}
+use Rattle.mealy.proofs.Indices.{length-window}
 use Rattle.mealy.proofs.Plain.{any-closed}
 use Rattle.mealy.proofs.LoopedPairs.{excludes}
 use Rattle.mealy.proofs.LeastWindows.{least-unique}
@@ -32,9 +34,7 @@ use Rattle.fitting.specs.declared.Answer.{Answer}
 use Rattle.fitting.specs.declared.Answer.the-variants.{Letter, None, Several}
 use Rattle.fitting.proofs.Answers.{right-unique, right-byte, right-byte-unique}
 use Rattle.filling.specs.Sets.{contribution, gather, add, added}
-use Rattle.filling.specs.Table.{windowAt}
 use Rattle.filling.specs.Window.{pass, unionOf, decoded}
-use Rattle.filling.proofs.Indices.{length-window}
 use Rattle.decoder.specs.Written.{Written}
 use Rattle.decoder.specs.Refusal.{sidesRefusal, windowRefusal, tableSize, tableRefusal}
 use Rattle.decoder.specs.Window.{AnsweredRight}

@@ -10,7 +10,9 @@ use Rattle.mealy.specs.Machine.{outs}
 use Rattle.mealy.specs.Setting.{Setting}
 use Rattle.mealy.specs.Window.{Works}
 use Rattle.mealy.specs.Answer.{Answer, letter, none, several, Two, Answers, byteOf}
+use Rattle.mealy.specs.Index.{indexOf, windowAt}
 use Rattle.mealy.proofs.Letters.{letter-at}
+use Rattle.mealy.proofs.Indices.{length-window, index-below, index-window}
 use Rattle.mealy.proofs.Answers.{length-outs, answer-unique}
 use Rattle.coder.specs.Refusal.{answer}
 use Rattle.coder.specs.File.{outputsOf, machineOf, settingOf}
@@ -18,8 +20,6 @@ use Rattle.coder.proofs.Accepted.{Accepted, accepted}
 use Rattle.coder.proofs.Tables.{output-below}
 use Rattle.values.specs.Window.{size}
 use Rattle.values.specs.declared.Window.{Window}
-use Rattle.filling.specs.Table.{indexOf, windowAt}
-use Rattle.filling.proofs.Indices.{length-window, index-below, index-window}
 use Rattle.decoder.specs.Written.{Written}
 use Rattle.decoder.specs.Refusal.{tableSize}
 use Rattle.decoder.specs.Table.{EntryOf, tableRefusalIn, TablePromise}

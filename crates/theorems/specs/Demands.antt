@@ -8,6 +8,7 @@ use lib.ListN.{length, getD, take, drop}
 use Rattle.mealy.specs.Machine.{outs, end}
 use Rattle.mealy.specs.Window.{Works}
 use Rattle.mealy.specs.Answer.{NoRun, Answers}
+use Rattle.mealy.specs.Index.{windowAt}
 use Rattle.mealy.specs.LoopedPair as mealy
 use Rattle.mealy.specs.LoopedPair.{Valid, TurnedRuns}
 use Rattle.coder.specs.Refusal.{upon}
@@ -24,7 +25,6 @@ use Rattle.values.specs.declared.LoopedPair.{LoopedPair}
 use Rattle.fitting.specs.Answer.{meaning, RightByte}
 use Rattle.fitting.specs.declared.Answer.{Answer}
 use Rattle.fitting.specs.declared.Answer.the-variants.{None}
-use Rattle.filling.specs.Table.{windowAt}
 use Rattle.decoder.specs.Written.{Written}
 use Rattle.decoder.specs.Refusal.{tableSize}
 use Rattle.decoder.specs.Window.{AnsweredRight, WindowPromise}

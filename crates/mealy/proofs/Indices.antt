@@ -6,8 +6,8 @@ use native.Mathlib.Nat.{pow-zero, pow-succ', one-le-pow, mod-lt, div-lt-iff-lt-m
 use native.Mathlib.Omega.{arith}
 use lib.ListN.{length}
 use lib.Arith.{digits-lt, digits-div, digits-mod}
 use Rattle.mealy.specs.Machine.{Letters}
-use Rattle.filling.specs.Table.{indexOf, windowAt}
+use Rattle.mealy.specs.Index.{indexOf, windowAt}
 
 pub length-window : (o n k : ℕ) → length (windowAt o n k) ≡ n
 unfolding windowAt
