@@ -2,9 +2,9 @@
 use mathlib.Core.Path.{_≡_, refl, sym, ap, subst, _∙_}
 use mathlib.Core.Bool.{Bool, true, _&&_}
 use mathlib.Core.List.{List, [], _++_}
-use Prim.Native.Nat.{ℕ, zero, suc, _<_}
+use Prim.Native.Nat.{ℕ, zero, suc}
 use native.Mathlib.Omega.{arith}
-use lib.ListN.{length, getD, take, drop}
+use lib.ListN.{length, take, drop}
 use lib.Seq.{take-at}
 use lib.Dec.{leb}
 use Rattle.mealy.specs.Machine.{outs, end}
@@ -40,6 +40,7 @@ use Rattle.lowhenita.specs.Host.{roomy, Hosted}
 use Rattle.theorems.specs.Published.{longEnough, givenResult}
 use Rattle.theorems.specs.Demands.{Demand1, Demand2, Demand3, Demanded, FromC}
 use Rattle.theorems.proofs.Published.{file-published, run-published, search-published, check-published, window-published, string-published, table-published}
+use Rattle.theorems.proofs.Counted.{counted}
 use Rattle.theorems.proofs.Handing.{search-found, run-handed, search-handed, decode-handed, table-handed, check-handed, window-handed}
 use Rattle.theorems.proofs.RoundTrip.{round-trip}
 use Rattle.theorems.proofs.HostRoundTrip.{host-round-trip}
@@ -154,15 +155,6 @@ window-answered f w received v = go (windowRefusal f w received true) refl
         (e, rw q (p .right))
     go (suc k) e p = let z : _≡_ {A = ℕ} 0 1 = cc in absurd (omega arith)
 
-count-done :
-    (k n : ℕ) (Q : ℕ → ℕ → Type 0) (before : List ℕ) (m : ℕ) (after : List ℕ) →
-    CountPromise k n Q before (count-result.the-variants.Done m) after → (j : ℕ) → j < m → Q j (getD after j 0)
-count-done zero n Q before m after p j l =
-    let d = p .result in
-    let q : m ≡ n = cc in
-    p .bytes .is j (rw q at l)
-count-done (suc k) n Q before m after p j l = let d = p .result in let z : _≡_ {A = ℕ} 0 1 = cc in absurd (omega arith)
-
 pub demand-2 : Demand2
 demand-2 = record {
   run = run-done;
@@ -170,8 +162,8 @@ demand-2 = record {
   none = λ f w received p.
       let h = window-answered f w received None p in
       none↔no-run (settingOf f) received (w .before) (omega (arith, window-accepted f w received true (h .0) .long)) .0 (h .1);
-  string = λ f w received before n after p. count-done _ _ _ before n after p;
-  table = λ f w before n after p. count-done _ _ _ before n after p;
+  string = λ f w received before n after p. let c = counted _ _ _ before n after p in (c .count, c .each);
+  table = λ f w before n after p. let c = counted _ _ _ before n after p in (c .count, c .each);
   back = round-trip;
   back-from-C = host-round-trip;
 }

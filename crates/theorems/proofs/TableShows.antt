@@ -3,7 +3,7 @@ use mathlib.Core.Path.{_≡_, refl, sym, ap, subst, _∙_}
 use mathlib.Core.Logic.{_↔_, _≢_}
 use mathlib.Core.Bool.{true}
 use mathlib.Core.List.{List}
-use Prim.Native.Nat.{ℕ, zero, suc, _+_, _<_, _≤_}
+use Prim.Native.Nat.{ℕ, _+_, _<_, _≤_}
 use native.Mathlib.Omega.{arith}
 use lib.ListN.{length, getD}
 use Rattle.mealy.specs.Machine.{outs}
@@ -20,35 +20,12 @@ use Rattle.coder.proofs.Accepted.{Accepted, accepted}
 use Rattle.coder.proofs.Tables.{output-below}
 use Rattle.values.specs.Window.{size}
 use Rattle.values.specs.declared.Window.{Window}
-use Rattle.decoder.specs.Written.{Written}
 use Rattle.decoder.specs.Refusal.{tableSize}
 use Rattle.decoder.specs.Table.{EntryOf, tableRefusalIn, TablePromise}
 use Rattle.decoder.specs.declared.CountResult as count
 use Rattle.decoder.proofs.Accepting.{table-accepted}
+use Rattle.theorems.proofs.Counted.{Counted, counted}
 use Rattle.theorems.proofs.RoundTrip.{outs-letters}
-
--- a table that was filled
-record Filled (f : List ℕ) (w : Window) (n : ℕ) (after : List ℕ) : Type 0 where
-  file : Accepted f
-  size-is : n ≡ tableSize (outputsOf f) w
-  each : (k : ℕ) → k < n → EntryOf f w k (getD after k 0)
-
-filled :
-    (f : List ℕ) (w : Window) (before : List ℕ) (n : ℕ) (after : List ℕ) →
-    TablePromise f w before (count.the-variants.Done n) after → Filled f w n after
-filled f w before n after p = go (tableRefusalIn f w (length before) true) refl
-  where
-    go : (k : ℕ) → tableRefusalIn f w (length before) true ≡ k → Filled f w n after
-    go zero e =
-        let d = rw e at (p .result) in
-        let q : n ≡ tableSize (outputsOf f) w = cc in
-        let written : Written (EntryOf f w) (tableSize (outputsOf f) w) before after = rw e at (p .bytes) in
-        record {
-          file = accepted f (table-accepted f w _ e .sides .file);
-          size-is = q;
-          each = λ k l. written .is k (rw q at l);
-        }
-    go (suc k) e = let d = rw e at (p .result) in let z : _≡_ {A = ℕ} 0 1 = cc in absurd (omega arith)
 
 -- 255 is the byte of "several" alone, where letters are below 16
 several-byte :
@@ -77,12 +54,15 @@ never-two S different b a works w long t =
     (different _ _ (λ e. t .differ (sym (f .letter) ∙ e ∙ g .letter)))
 
 module _ (f : List ℕ) (w : Window) (before : List ℕ) (n : ℕ) (after : List ℕ) (p : TablePromise f w before (count.the-variants.Done n) after) where
-  t : Filled f w n after
-  t = filled f w before n after p
+  t : Counted (tableRefusalIn f w (length before) true) (tableSize (outputsOf f) w) (EntryOf f w) n after
+  t = counted _ _ _ before n after p
+
+  file : Accepted f
+  file = accepted f (table-accepted f w _ (t .accepted) .sides .file)
 
   inputs-high : machineOf f .inputs ≤ 16
   unfolding machineOf
-  inputs-high = t .file .entries .limits .inputs-high
+  inputs-high = file .entries .limits .inputs-high
 
   none-several : Works (settingOf f) (w .before) (w .after) → (k : ℕ) → k < n → getD after k 0 ≢ 255
   none-several works k l e =
@@ -97,10 +77,10 @@ module _ (f : List ℕ) (w : Window) (before : List ℕ) (n : ℕ) (after : List
       let b = w .before in
       let o = outs (machineOf f) s xs in
       let long : length o ≡ size w = length-outs (machineOf f) s xs ∙ equal .length₁ in
-      let below = outs-letters (machineOf f) (outputsOf f) (output-below f (t .file)) s xs in
+      let below = outs-letters (machineOf f) (outputsOf f) (output-below f file) s xs in
       let k = indexOf (outputsOf f) o in
       let small : k < tableSize (outputsOf f) w = rw long at (index-below (outputsOf f) o below) in
-      let l : k < n = rw (t .size-is) small in
+      let l : k < n = rw (t .count) small in
       let part : windowAt (outputsOf f) (size w) k ≡ o =
       ap (λ (m : ℕ). windowAt (outputsOf f) m k) (sym long) ∙ index-window (outputsOf f) o below in
       let two : Two S o b =

@@ -135,12 +135,14 @@ pub record Demand2 : Type 0 where
       NoRun (settingOf f) received
   pub string :
       (f : List ℕ) (w : Window) (received before : List ℕ) (n : ℕ) (after : List ℕ) →
-      StringPromise f w received before (count-result.the-variants.Done n) after → (k : ℕ) → k < n →
-      RightByte (settingOf f) (take (size w) (drop k received)) (w .before) (getD after k 0)
+      StringPromise f w received before (count-result.the-variants.Done n) after →
+      (n ≡ places (length received) w) ×
+      ((k : ℕ) → k < n → RightByte (settingOf f) (take (size w) (drop k received)) (w .before) (getD after k 0))
   pub table :
       (f : List ℕ) (w : Window) (before : List ℕ) (n : ℕ) (after : List ℕ) →
-      TablePromise f w before (count-result.the-variants.Done n) after → (k : ℕ) → k < n →
-      RightByte (settingOf f) (windowAt (outputsOf f) (size w) k) (w .before) (getD after k 0)
+      TablePromise f w before (count-result.the-variants.Done n) after →
+      (n ≡ tableSize (outputsOf f) w) ×
+      ((k : ℕ) → k < n → RightByte (settingOf f) (windowAt (outputsOf f) (size w) k) (w .before) (getD after k 0))
   -- third sentence
   pub back : LettersComeBack
   pub back-from-C : LettersComeBackFromC
