@@ -207,7 +207,7 @@ fn walk(text: &[u8]) -> State {
     s
 }
 
-// The last line. A text that fills its buffer may be cut off: that is one difference more.
+// The last line: the numbers, or that the text fills its buffer and may be cut off.
 fn total(s: State, whole: bool) {
     if whole {
         got::say(got::TOTAL, s.cases, s.differ);

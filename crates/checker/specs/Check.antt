@@ -11,8 +11,8 @@ use Rattle.coder.specs.File.{fileRefusal, statesOf, inputsOf, settingOf}
 use Rattle.checker.specs.declared.CheckResult.{CheckResult}
 use Rattle.checker.specs.declared.CheckResult.the-variants.{Refused, Checked}
 
--- The call's refusal, in checking order: 1 to 6, then 7 (a start state), 9 (the bytes are not twice the letters, the four lengths and
--- one added as whole numbers), 11 (some lent buffer is too short) and 12 (an input letter).
+-- The call's refusal, in checking order: 1 to 6, then 7 (a start state), 9 (there are not two bytes for each letter; the sum is one of
+-- whole numbers, which does not wrap), 11 (some lent buffer is too short) and 12 (an input letter).
 unfoldable pub checkRefusal : List ℕ → LoopedPair → Bool → ℕ
 checkRefusal f p fits =
     first (fileRefusal f)

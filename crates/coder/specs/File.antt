@@ -80,8 +80,8 @@ pub record EntriesPart (f : List ℕ) (file : ℕ × ℕ) (part : List ℕ) (pla
   pub block : place .0 ≡ file .0
   pub offset : place .1 ≡ file .1 + answer (fileRefusal f) (λ k. 0) 6
 
--- A byte of the entry of state s and input letter x, of N states and I input letters, state by state and within a state input by
--- input: offset 0 has the next state, offset 1 the output letter. 0 where there is no such entry.
+-- A byte of the entry of state s and input letter x, of N states and I input letters. The entries of one state stand together, in the order
+-- of the input letters: offset 0 has the next state, offset 1 the output letter. 0 where there is no such entry.
 unfoldable pub entryOf : ℕ → ℕ → List ℕ → ℕ → ℕ → ℕ → ℕ
 entryOf n i entries offset s x = cond (ltb s n && ltb x i) (getD entries (2 * (i * s + x) + offset) 0) 0
 

@@ -47,7 +47,7 @@ found f before v after = go (searchRefusal f (leb wanted (length before))) refl
         let z : _≡_ {A = ℕ} 0 1 = cc in
         absurd (omega arith)
 
--- ---- "no decoder" exactly when no window works
+-- ---- "no decoder"
 
 exactly :
     (R : Relation) (S : Setting) (v : Verdict) (before after : List ℕ) → Says R S v before after →
@@ -55,7 +55,7 @@ exactly :
 exactly R S (Least w) before after h = (λ x. absurd x, λ none. none (w .before) (w .after) (h .least .works))
 exactly R S (NoDecoder p) before after h = (λ x. h .none, λ none. tt)
 
--- Demand 3, first sentence: a search that is not refused says "no decoder" exactly when no window works, whatever its sides.
+-- Demand 3, first sentence, in both directions: "no decoder" where windows of all sizes fail, and there alone.
 pub no-decoder-exactly :
     (f before : List ℕ) (v : Verdict) (after : List ℕ) → SearchPromise f before (Found v) after →
     IsNoDecoder v ↔ ((b a : ℕ) → Works (settingOf f) b a → ⊥)

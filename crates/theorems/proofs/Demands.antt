@@ -2,21 +2,26 @@
 use mathlib.Core.Path.{_≡_, refl, sym, ap, subst, _∙_}
 use mathlib.Core.Bool.{Bool, true, _&&_}
 use mathlib.Core.List.{List, [], _++_}
-use Prim.Native.Nat.{ℕ, zero, suc}
+use Prim.Native.Nat.{ℕ, zero, suc, _+_, _<_}
 use native.Mathlib.Omega.{arith}
-use lib.ListN.{length, take, drop}
-use lib.Seq.{take-at}
+use lib.ListN.{length, getD, take, drop, length-drop}
+use lib.Seq.{take-at, length-take-le}
 use lib.Dec.{leb}
 use Rattle.mealy.specs.Machine.{outs, end}
+use Rattle.mealy.specs.Setting.{Setting}
+use Rattle.mealy.specs.Answer as theory
 use Rattle.mealy.specs.Answer.{Answers}
-use Rattle.mealy.proofs.Answers.{length-outs, none↔no-run}
+use Rattle.mealy.specs.Index.{windowAt}
+use Rattle.mealy.proofs.Answers.{length-outs, answer-unique, none↔no-run}
+use Rattle.mealy.proofs.Indices.{length-window}
 use Rattle.coder.specs.Refusal.{upon, answer}
-use Rattle.coder.specs.File.{fileRefusal, outputsOf, machineOf, settingOf}
+use Rattle.coder.specs.File.{entriesOf, fileRefusal, outputsOf, machineOf, settingOf}
 use Rattle.coder.proofs.Refusals.{both-right}
 use Rattle.running.specs.Run.{runRefusal, runRefusalIn, RunPromise}
 use Rattle.running.specs.declared.RunResult as run-result
+use Rattle.values.specs.Window.{size}
 use Rattle.values.specs.declared.Window.{Window}
-use Rattle.fitting.specs.Answer.{meaning}
+use Rattle.fitting.specs.Answer.{meaning, RightByte}
 use Rattle.fitting.specs.declared.Answer.{Answer}
 use Rattle.fitting.specs.declared.Answer.the-variants.{None}
 use Rattle.decoder.specs.Written.{Written}
@@ -38,7 +43,7 @@ use Rattle.search.proofs.Determined.{found, no-decoder-exactly}
 use Rattle.checker.specs.Check.{checkRefusal}
 use Rattle.lowhenita.specs.Host.{roomy, Hosted}
 use Rattle.theorems.specs.Published.{longEnough, givenResult}
-use Rattle.theorems.specs.Demands.{Demand1, Demand2, Demand3, Demanded, FromC}
+use Rattle.theorems.specs.Demands.{Demand1, Said, SaidByte, Demand2, Demand3, Demanded, FromC}
 use Rattle.theorems.proofs.Published.{file-published, run-published, search-published, check-published, window-published, string-published, table-published}
 use Rattle.theorems.proofs.Counted.{counted}
 use Rattle.theorems.proofs.Handing.{search-found, run-handed, search-handed, decode-handed, table-handed, check-handed, window-handed}
@@ -68,6 +73,13 @@ count-upon :
 count-upon zero n Q before r after p = (p .result, p .bytes)
 count-upon (suc k) n Q before r after p = (p .result, p .bytes)
 
+entries-upon :
+    (f : List ℕ) (file place : ℕ × ℕ) (part : List ℕ) (k : ℕ) → part ≡ answer k (λ j. []) (entriesOf f) → place .0 ≡ file .0 →
+    place .1 ≡ file .1 + answer k (λ j. 0) 6 →
+    upon k (λ j. part ≡ []) ((part ≡ entriesOf f) × (place .0 ≡ file .0) × (place .1 ≡ file .1 + 6))
+entries-upon f file place part zero b e o = (b, e, o)
+entries-upon f file place part (suc k) b e o = b
+
 search-upon :
     (k : ℕ) (Answered : Type 0) (r : SearchResult) (before after : List ℕ) →
     upon k (λ j. RefusedSearch j r before after) Answered →
@@ -86,7 +98,7 @@ hosted-moved {k} {k′} {r} {Stays} {Given} e = subst (λ (j : ℕ). Hosted j r 
 pub demand-1 : Demand1
 demand-1 = record {
   counts = λ f r p. moved _ _ (file-published f) (by-answer (fileRefusal f) _ _ p);
-  entries = λ f file place part p. moved _ _ (file-published f) (by-answer (fileRefusal f) _ _ (p .bytes));
+  entries = λ f file place part p. moved _ _ (file-published f) (entries-upon f file place part (fileRefusal f) (p .bytes) (p .block) (p .offset));
   run = λ f s xs before r after p.
       moved _ _ (ap (runRefusal f s xs) (sym (both-right (leb (length xs) (length before)))) ∙ run-published f s xs before [])
       (both-answers (runRefusalIn f s xs before) _ _ _ _ (p .result) (p .bytes));
@@ -155,15 +167,44 @@ window-answered f w received v = go (windowRefusal f w received true) refl
         (e, rw q (p .right))
     go (suc k) e p = let z : _≡_ {A = ℕ} 0 1 = cc in absurd (omega arith)
 
+-- a right answer is what the second sentence says
+said : (S : Setting) (w : List ℕ) (b : ℕ) → b < length w → (v : theory.Answer) → Answers S w b v → Said S w b v
+said S w b l v h =
+    record {
+      right = h;
+      letter = λ x a. answer-unique S w b v (theory.letter x) h a;
+      none = λ n. answer-unique S w b v theory.none h (none↔no-run S w b l .1 n);
+      several = λ two. answer-unique S w b v theory.several h two;
+      no-run = λ e. none↔no-run S w b l .0 (rw e at h);
+    }
+
+said-byte : (S : Setting) (w : List ℕ) (b v : ℕ) → b < length w → RightByte S w b v → SaidByte S w b v
+said-byte S w b v l r = record { answer = r .answer; said = said S w b l (r .answer) (r .right); byte = r .byte }
+
 pub demand-2 : Demand2
 demand-2 = record {
   run = run-done;
-  window = λ f w received v p. window-answered f w received v p .1;
-  none = λ f w received p.
-      let h = window-answered f w received None p in
-      none↔no-run (settingOf f) received (w .before) (omega (arith, window-accepted f w received true (h .0) .long)) .0 (h .1);
-  string = λ f w received before n after p. let c = counted _ _ _ before n after p in (c .count, c .each);
-  table = λ f w before n after p. let c = counted _ _ _ before n after p in (c .count, c .each);
+  window = λ f w received v p.
+      let h = window-answered f w received v p in
+      let long = window-accepted f w received true (h .0) .long in
+      said (settingOf f) received (w .before) (omega arith) (meaning v) (h .1);
+  string = λ f w received before n after p.
+      let c = counted _ _ _ before n after p in (
+        c .count,
+        λ k l.
+            let part = take (size w) (drop k received) in
+            let q = c .count in
+            let long : length part ≡ size w = length-take-le (size w) (drop k received) (simp length-drop (omega arith)) in
+            said-byte (settingOf f) part (w .before) (getD after k 0) (omega arith) (c .each k l),
+      );
+  table = λ f w before n after p.
+      let c = counted _ _ _ before n after p in (
+        c .count,
+        λ k l.
+            let part = windowAt (outputsOf f) (size w) k in
+            let long = length-window (outputsOf f) (size w) k in
+            said-byte (settingOf f) part (w .before) (getD after k 0) (omega arith) (c .each k l),
+      );
   back = round-trip;
   back-from-C = host-round-trip;
 }
@@ -179,7 +220,7 @@ demanded f before v after p =
       turned = λ q e. let s : Says order (settingOf f) (NoDecoder q) before after = rw e at says in s .turned;
       works = λ w e. let s : Says order (settingOf f) (Least w) before after = rw e at says in s .least .works;
       fewest = λ w e b a h. let s : Says order (settingOf f) (Least w) before after = rw e at says in s .least .least b a h .fewer;
-      tie = λ w e b a h. let s : Says order (settingOf f) (Least w) before after = rw e at says in s .least .least b a h .tie;
+      less-lookahead = λ w e b a h. let s : Says order (settingOf f) (Least w) before after = rw e at says in s .least .least b a h .tie;
     }
 
 pub demand-3 : Demand3

@@ -1,4 +1,4 @@
--- The refusal of each call is the first number of the published list that applies to what the call is given.
+-- Each call is refused as the published list says, for what the call is given.
 use mathlib.Core.Path.{_≡_, refl, sym, ap, _∙_}
 use mathlib.Core.Bool.{Bool, true, false, not, _&&_}
 use mathlib.Core.List.{List}

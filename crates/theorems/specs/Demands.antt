@@ -7,7 +7,9 @@ use mathlib.Core.List.{List, [], _++_}
 use lib.ListN.{length, getD, take, drop}
 use Rattle.mealy.specs.Machine.{outs, end}
 use Rattle.mealy.specs.Window.{Works}
-use Rattle.mealy.specs.Answer.{NoRun, Answers}
+use Rattle.mealy.specs.Setting.{Setting}
+use Rattle.mealy.specs.Answer as theory
+use Rattle.mealy.specs.Answer.{NoRun, Alone, Two, Answers, byteOf}
 use Rattle.mealy.specs.Index.{windowAt}
 use Rattle.mealy.specs.LoopedPair as mealy
 use Rattle.mealy.specs.LoopedPair.{Valid, TurnedRuns}
@@ -22,9 +24,8 @@ use Rattle.values.specs.Window.{size}
 use Rattle.values.specs.Pair.{pairOf}
 use Rattle.values.specs.declared.Window.{Window}
 use Rattle.values.specs.declared.LoopedPair.{LoopedPair}
-use Rattle.fitting.specs.Answer.{meaning, RightByte}
+use Rattle.fitting.specs.Answer.{meaning}
 use Rattle.fitting.specs.declared.Answer.{Answer}
-use Rattle.fitting.specs.declared.Answer.the-variants.{None}
 use Rattle.decoder.specs.Written.{Written}
 use Rattle.decoder.specs.Refusal.{tableSize}
 use Rattle.decoder.specs.Window.{AnsweredRight, WindowPromise}
@@ -48,14 +49,14 @@ use Rattle.theorems.specs.Published.{Given, refusalOf, givenFile, givenR
 use Rattle.theorems.specs.RoundTrip.{LettersComeBack, LettersComeBackFromC}
 use Rattle.theorems.specs.Handed.{Handed, laidRun, laidSearch, laidCount, laidCheck, laidWindow}
 
--- ---- demand 1: accepted and answered, or refused by the first number of the published list that applies, with nothing changed
+-- ---- demand 1: accepted and answered, or refused by number with nothing changed
 
 -- What holds of a call that is given g: Refused k, k being the first number that applies, or Answered where none does.
 abbrev pub Judged : Given → (ℕ → Type 0) → Type 0 → Type 0
 Judged g Refused Answered = upon (refusalOf g) Refused Answered
 
 -- For each call: a result that it promises is its refusal by that number, with every lent byte as it was, or its stated answer. The
--- call that hands entries back has an empty part for a number.
+-- call that hands entries back has an empty part for a number, and else the bytes of the file from byte 6 on, where they stand in it.
 pub record Demand1 : Type 0 where
   pub counts :
       (f : List ℕ) (r : Header) → r ≡ headerOf f →
@@ -63,7 +64,8 @@ pub record Demand1 : Type 0 where
       (r ≡ header-result.the-variants.Counts (statesOf f) (inputsOf f) (outputsOf f))
   pub entries :
       (f : List ℕ) (file place : ℕ × ℕ) (part : List ℕ) → EntriesPart f file part place →
-      Judged (givenFile f) (λ k. part ≡ []) (part ≡ entriesOf f)
+      Judged (givenFile f) (λ k. part ≡ [])
+      ((part ≡ entriesOf f) × (place .0 ≡ file .0) × (place .1 ≡ file .1 + 6))
   pub run :
       (f : List ℕ) (s : ℕ) (xs before : List ℕ) (r : RunResult) (after : List ℕ) → RunPromise f s xs before r after →
       Judged (givenRun f s xs before []) (λ k. (r ≡ run-result.the-variants.Refused k) × (after ≡ before))
@@ -120,6 +122,22 @@ pub record Demand1 : Type 0 where
 
 -- ---- demand 2: the machine of the table runs; the answer goes by what fits; letters come back
 
+-- Second sentence, for the answer v on the letters w of a window with b letters before the present one: v is right; and where one letter
+-- alone fits, where no run has these outputs, and where two letters fit, v is that letter, "none" and "several". Where v is "none", no run
+-- has these outputs.
+pub record Said (S : Setting) (w : List ℕ) (b : ℕ) (v : theory.Answer) : Type 0 where
+  pub right : Answers S w b v
+  pub letter : (x : ℕ) → Alone S w b x → v ≡ theory.letter x
+  pub none : NoRun S w → v ≡ theory.none
+  pub several : Two S w b → v ≡ theory.several
+  pub no-run : v ≡ theory.none → NoRun S w
+
+-- v is the byte of such an answer
+pub record SaidByte (S : Setting) (w : List ℕ) (b v : ℕ) : Type 0 where
+  pub answer : theory.Answer
+  pub said : Said S w b answer
+  pub byte : v ≡ byteOf answer
+
 pub record Demand2 : Type 0 where
   -- first sentence: outputs and end state are those of the file's machine
   pub run :
@@ -129,20 +147,17 @@ pub record Demand2 : Type 0 where
   -- second sentence: of one window, of each place of a string, of each index of a table
   pub window :
       (f : List ℕ) (w : Window) (received : List ℕ) (v : Answer) →
-      WindowPromise f w received (window-result.the-variants.Answered v) → Answers (settingOf f) received (w .before) (meaning v)
-  pub none :
-      (f : List ℕ) (w : Window) (received : List ℕ) → WindowPromise f w received (window-result.the-variants.Answered None) →
-      NoRun (settingOf f) received
+      WindowPromise f w received (window-result.the-variants.Answered v) → Said (settingOf f) received (w .before) (meaning v)
   pub string :
       (f : List ℕ) (w : Window) (received before : List ℕ) (n : ℕ) (after : List ℕ) →
       StringPromise f w received before (count-result.the-variants.Done n) after →
       (n ≡ places (length received) w) ×
-      ((k : ℕ) → k < n → RightByte (settingOf f) (take (size w) (drop k received)) (w .before) (getD after k 0))
+      ((k : ℕ) → k < n → SaidByte (settingOf f) (take (size w) (drop k received)) (w .before) (getD after k 0))
   pub table :
       (f : List ℕ) (w : Window) (before : List ℕ) (n : ℕ) (after : List ℕ) →
       TablePromise f w before (count-result.the-variants.Done n) after →
       (n ≡ tableSize (outputsOf f) w) ×
-      ((k : ℕ) → k < n → RightByte (settingOf f) (windowAt (outputsOf f) (size w) k) (w .before) (getD after k 0))
+      ((k : ℕ) → k < n → SaidByte (settingOf f) (windowAt (outputsOf f) (size w) k) (w .before) (getD after k 0))
   -- third sentence
   pub back : LettersComeBack
   pub back-from-C : LettersComeBackFromC
@@ -156,10 +171,10 @@ pub record Demanded (f : List ℕ) (v : Verdict) (buffer : List ℕ) : Type 0 wh
   -- second sentence: the pair is valid, and its two runs are as demanded for every k and every m
   pub valid : (p : LoopedPair) → v ≡ NoDecoder p → Valid (settingOf f) (pairOf p buffer)
   pub turned : (p : LoopedPair) → v ≡ NoDecoder p → (k m : ℕ) → TurnedRuns (settingOf f) (pairOf p buffer) k m
-  -- third sentence: the window works; every other has at least as many letters and, of equally many, at least as much lookahead
+  -- third sentence: the window works; no other that works has fewer letters, or as many and less lookahead
   pub works : (w : Window) → v ≡ Least w → Works (settingOf f) (w .before) (w .after)
   pub fewest : (w : Window) → v ≡ Least w → (b a : ℕ) → Works (settingOf f) b a → w .before + 1 + w .after ≤ b + 1 + a
-  pub tie :
+  pub less-lookahead :
       (w : Window) → v ≡ Least w → (b a : ℕ) → Works (settingOf f) b a → w .before + 1 + w .after ≡ b + 1 + a → w .after ≤ a
 
 pub record Demand3 : Type 0 where

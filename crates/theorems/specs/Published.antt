@@ -40,17 +40,17 @@ pub record Given : Type 0 where
   -- received letters
   pub received : List ℕ
 
-abbrev pub sidesSmall : List ℕ → Bool
-sidesSmall [] = true
-sidesSmall (x ∷ xs) = leb x maxSide && sidesSmall xs
+abbrev pub sidesWithin : List ℕ → Bool
+sidesWithin [] = true
+sidesWithin (x ∷ xs) = leb x maxSide && sidesWithin xs
 
-abbrev pub numbersRight : List Bytes → Bool
-numbersRight [] = true
-numbersRight (b ∷ bs) = eqb (b .has) (b .wants) && numbersRight bs
+abbrev pub lengthsRight : List Bytes → Bool
+lengthsRight [] = true
+lengthsRight (b ∷ bs) = eqb (b .has) (b .wants) && lengthsRight bs
 
-abbrev pub tablesSmall : ℕ → List Window → Bool
-tablesSmall o [] = true
-tablesSmall o (w ∷ ws) = leb (tableSize o w) maxTable && tablesSmall o ws
+abbrev pub tablesWithin : ℕ → List Window → Bool
+tablesWithin o [] = true
+tablesWithin o (w ∷ ws) = leb (tableSize o w) maxTable && tablesWithin o ws
 
 abbrev pub longEnough : List Bytes → Bool
 longEnough [] = true
@@ -61,6 +61,8 @@ pub record Rule : Type 0 where
   pub number : ℕ
   pub applies : Bool
 
+-- A test is asked only where no number before it applies: that of 3 stands behind 1, so that the file has a count field, and that of 6
+-- behind 5, so that it has all entries.
 abbrev pub published : Given → List Rule
 published g =
     let f = g .file in
@@ -74,9 +76,9 @@ published g =
       applies = not (allBelow (statesOf f * inputsOf f) (entryInRange (statesOf f) (outputsOf f) (entriesOf f)));
     } ∷
     record { number = 7; applies = not (lettersBelow (statesOf f) (g .starts)) } ∷
-    record { number = 8; applies = not (sidesSmall (g .sides)) } ∷
-    record { number = 9; applies = not (numbersRight (g .counted)) } ∷
-    record { number = 10; applies = not (tablesSmall (outputsOf f) (g .tables)) } ∷
+    record { number = 8; applies = not (sidesWithin (g .sides)) } ∷
+    record { number = 9; applies = not (lengthsRight (g .counted)) } ∷
+    record { number = 10; applies = not (tablesWithin (outputsOf f) (g .tables)) } ∷
     record { number = 11; applies = not (longEnough (g .buffers)) } ∷
     record { number = 12; applies = not (lettersBelow (inputsOf f) (g .inputs)) } ∷
     record { number = 13; applies = not (lettersBelow (outputsOf f) (g .received)) } ∷

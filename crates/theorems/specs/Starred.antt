@@ -1,5 +1,5 @@
--- The starred cases of document 01 ("Example coders"): one table of coder files and what is claimed of the calls on each. A claim says
--- that every outcome that the call promises on this file is the one named.
+-- The starred cases of document 01 ("Example coders"): one table of coder files and what is claimed of each. A claim on a call says that
+-- every outcome that the call promises on this file is the one named; of a "no decoder" the pair is open.
 use Prim.Native.Nat.{ℕ, _≤_, _<_}
 use mathlib.Core.Path.{_≡_}
 use mathlib.Core.Logic.{_≢_}
@@ -99,7 +99,7 @@ starred =
     -- G
     record {
       file = 1 ∷ 0 ∷ 19 ∷ 4 ∷ 2 ∷ 6 ∷ 1 ∷ 4 ∷ 1 ∷ 5 ∷ 2 ∷ 0 ∷ 3 ∷ 0 ∷ 2 ∷ 0 ∷ 2 ∷ 1 ∷ 3 ∷ 2 ∷ 3 ∷ 3 ∷ [];
-      claims = answer 0 1 (0 ∷ 2 ∷ []) (Letter 1) ∷ answer 0 1 (1 ∷ 2 ∷ []) None ∷ answer 0 0 (0 ∷ []) Several ∷ [];
+      claims = answer 0 1 (0 ∷ 0 ∷ []) (Letter 0) ∷ answer 0 1 (0 ∷ 2 ∷ []) (Letter 1) ∷ answer 0 1 (1 ∷ 2 ∷ []) None ∷ answer 0 0 (0 ∷ []) Several ∷ [];
     } ∷
     -- H
     record { file = 1 ∷ 0 ∷ 11 ∷ 2 ∷ 2 ∷ 2 ∷ 0 ∷ 0 ∷ 0 ∷ 1 ∷ 1 ∷ 0 ∷ 1 ∷ 0 ∷ []; claims = no-decoder (pair 1 1 (0 ∷ 0 ∷ 0 ∷ 1 ∷ 0 ∷ 0 ∷ [])) ∷ [] } ∷
