@@ -1,13 +1,14 @@
 # make test: the gate. make check: the same without the must-fail edits, and what is proved already is not proved again.
 # make report: builds the program and runs it on an example. make lib: the static library for a host in C, with include/lowhenita.h.
 # make examples: the example host, run on an example. make target/lowhenita.pc: the pkg-config file, nothing is proved for it.
-# make install PREFIX=..: library, header, program, manual page, pkg-config file. make bench: the library beside plain C.
-# make clean: removes what was built.
-.PHONY: test check report lib examples target/lowhenita.pc install bench clean
-
+# make install PREFIX=..: library, header, program, manual page, pkg-config file. make uninstall PREFIX=..: removes these files.
+# make bench: the library beside plain C. make clean: removes what was built.
 PREFIX = /usr/local
+PC_FILE = target/lowhenita.pc
 VERSION := $(shell sed -n 's/^\#define LOWHENITA_VERSION "\(.*\)"$$/\1/p' include/lowhenita.h)
 CC = gcc
+
+.PHONY: test check report lib examples $(PC_FILE) install uninstall bench clean
 
 test:
 	.ci/run
@@ -19,6 +20,7 @@ check:
 	tests/host/run
 	tests/report/run
 	tests/examples/run
+	@echo 'make check: all parts passed'
 
 report:
 	rt check report
@@ -38,18 +40,23 @@ examples: lib
 	target/decode examples/A.coder 1 1 0 1
 
 # Written anew each time: PREFIX may have changed.
-target/lowhenita.pc:
-	mkdir -p target
+$(PC_FILE):
+	mkdir -p $(@D)
 	printf 'prefix=%s\nName: lowhenita\nDescription: line coders, their least windows and decoders, proved\nVersion: %s\nCflags: -I$${prefix}/include\nLibs: -L$${prefix}/lib -llowhenita\n' \
 	  '$(PREFIX)' '$(VERSION)' > $@
 
-install: lib report target/lowhenita.pc
+install: lib report $(PC_FILE)
 	install -d $(DESTDIR)$(PREFIX)/lib/pkgconfig $(DESTDIR)$(PREFIX)/include $(DESTDIR)$(PREFIX)/bin $(DESTDIR)$(PREFIX)/share/man/man1
 	install -m 644 target/staticlib/liblowhenita.a $(DESTDIR)$(PREFIX)/lib/
-	install -m 644 target/lowhenita.pc $(DESTDIR)$(PREFIX)/lib/pkgconfig/
+	install -m 644 $(PC_FILE) $(DESTDIR)$(PREFIX)/lib/pkgconfig/lowhenita.pc
 	install -m 644 include/lowhenita.h $(DESTDIR)$(PREFIX)/include/
 	install -m 755 target/bin/report $(DESTDIR)$(PREFIX)/bin/
 	install -m 644 man/report.1 $(DESTDIR)$(PREFIX)/share/man/man1/
+
+# The folders stay.
+uninstall:
+	rm -f $(DESTDIR)$(PREFIX)/lib/liblowhenita.a $(DESTDIR)$(PREFIX)/lib/pkgconfig/lowhenita.pc $(DESTDIR)$(PREFIX)/include/lowhenita.h \
+	  $(DESTDIR)$(PREFIX)/bin/report $(DESTDIR)$(PREFIX)/share/man/man1/report.1
 
 bench: lib
 	$(CC) -std=c99 -Wall -Wextra -Werror -O2 -Iinclude -Itests/host tests/bench/bench.c tests/bench/plain.c tests/host/coders.c \
