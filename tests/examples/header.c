@@ -1,5 +1,6 @@
 /* The header: fields of known bytes; a sentence of its own for each refusal; and each refusal's name against the number that the library
-   returns for a call with that one fault. C99 and C++. The last line is 'N passed, M failed'. */
+   returns for a call with that one fault. C99 and C++. The last line is 'N passed, M failed'.
+   With an argument: number, sentence and name of each refusal, as rows of the first table of docs/refusals.md. */
 #include "lowhenita.h"
 
 #include <stdio.h>
@@ -88,8 +89,32 @@ static void refusals(void)
     expect_refusal(lowhenita_decode(parity, n, 0, 0, two, 2, bytes, 2, result, sizeof result), LOWHENITA_REFUSED_RECEIVED_LETTER);
 }
 
-int main(void)
+#define ROW(name) printf("| %d | %s | `%s` |\n", LOWHENITA_REFUSED_##name, lowhenita_refusal_text(LOWHENITA_REFUSED_##name), #name)
+
+static void rows(void)
 {
+    ROW(SHORT_FILE);
+    ROW(VERSION);
+    ROW(FILE_LENGTH);
+    ROW(COUNTS);
+    ROW(COUNT_FIELD);
+    ROW(ENTRY);
+    ROW(START_STATE);
+    ROW(WINDOW_SIDE);
+    ROW(NUMBER_OF_LETTERS);
+    ROW(TABLE_SIZE);
+    ROW(SHORT_BUFFER);
+    ROW(INPUT_LETTER);
+    ROW(RECEIVED_LETTER);
+}
+
+int main(int argc, char **argv)
+{
+    (void)argv;
+    if (argc > 1) {
+        rows();
+        return 0;
+    }
     fields();
     texts();
     refusals();
