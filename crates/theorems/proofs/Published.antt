@@ -8,7 +8,7 @@ use native.Mathlib.Omega.{arith}
 use lib.ListN.{length, length-drop}
 use lib.Dec.{ltb, leb, eqb}
 use borrow.Author.Tests.{eq-eqb, ne-eqb, ltb-false, eqb-true}
-use Rattle.mealy.specs.LoopedPair.{LoopedPair, letters}
+use Rattle.mealy.specs.LoopedPair.{LoopedPair}
 use Rattle.coder.specs.Refusal.{refuse, first, allBelow}
 use Rattle.coder.specs.Limits.{maxSide}
 use Rattle.coder.specs.File.{versionOf, countField, statesOf, inputsOf, outputsOf, entriesOf, inRange, entryInRange, entriesRefusal, fileRefusal}
@@ -101,7 +101,7 @@ module _ (f : List ℕ) where
   pub check-published :
       (p : LoopedPair) (more : List Bytes) → checkRefusal f p (longEnough more) ≡ refusalOf (givenCheck f p more)
   unfolding checkRefusal
-  check-published p more = sym (rw (both-right (ltb (p .t) (statesOf f)), both-right (eqb (length (p .bytes)) (2 * letters p))) (file-first _))
+  check-published p more = sym (rw (both-right, both-right) (file-first _))
 
   -- 1 to 6 and 8, in front of others
   sides-first :
