@@ -5,6 +5,7 @@ use crate::got;
 use crate::got::Got;
 use crate::pair;
 use values::LoopedPair;
+use values::Order;
 use values::Window;
 
 pub(crate) fn counts(file: &[u8]) -> Got {
@@ -97,9 +98,20 @@ fn counted(r: decoder::CountResult) -> Got {
     }
 }
 
-// The search. Of a looped pair its form says whether what is fixed of it holds; or, where one loop is asked for, how long that is.
+// The search that a line asks for: in the order that it names, or in none.
+fn searched(file: &[u8], asked: usize, lent: &mut [u8]) -> search::SearchResult {
+    if asked == asking::LEAST_LOOKAHEAD {
+        return search::search_in_order(file, Order::LeastLookahead, lent);
+    }
+    if asked == asking::FEWEST_LETTERS {
+        return search::search_in_order(file, Order::FewestLetters, lent);
+    }
+    search::search(file, lent)
+}
+
+// What a search gave. Of a looped pair its form says whether what is fixed of it holds; or, where one loop is asked for, how long that is.
 fn search(file: &[u8], asked: usize, lent: &mut [u8]) -> Got {
-    match search::search(file, lent) {
+    match searched(file, asked, lent) {
         search::SearchResult::Refused(k) => Got {
             form: got::REFUSED_BUFFER,
             a: k,
@@ -191,8 +203,8 @@ pub(crate) fn make(q: Request, file: &[u8], input: &[u8], lent: &mut [u8]) -> Go
     if q.call == asking::TABLE {
         return counted(decoder::table(file, w, lent));
     }
-    // The search, and the two that ask for one loop of its pair.
-    if q.call <= asking::FORWARD_LOOP {
+    // The search, the two that ask for one loop of its pair, and those that name an order.
+    if q.call <= asking::FEWEST_LETTERS {
         return search(file, q.call, lent);
     }
     plain(q, file, input)

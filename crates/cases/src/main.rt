@@ -36,7 +36,7 @@ fn differs(number: usize, line: &[u8], g: Got, bytes: &[u8]) -> bool {
 
 // How many bytes are lent to a call.
 fn size(q: Request) -> usize {
-    if q.call <= asking::FORWARD_LOOP {
+    if q.call <= asking::FEWEST_LETTERS {
         return q.f;
     }
     0

@@ -6,7 +6,7 @@ use native.Mathlib.Omega.{arith}
 use native.Mathlib.Decide.{ℕ-discrete, decLe}
 use lib.ListN.{length, getD, set, length-set}
 use lib.Seq.{getD-set-same, getD-set-other}
-use Rattle.mealy.specs.Order.{FewestLetters}
+use Rattle.mealy.specs.Order.{Relation, IsOrder}
 use Rattle.coder.specs.Limits.{maxSide}
 use Rattle.product.specs.Depth.{endless}
 use Rattle.least.specs.Need.{MostPast}
@@ -51,49 +51,45 @@ module _ {worst need : List ℕ} {f most : ℕ} (n : NeedsFrom worst f need most
     ];
   }
 
--- ---- the first of the candidates of lookahead a to maxSide
+-- ---- the first in R of the candidates of lookahead a to maxSide
 
-pub record FirstFrom (need : List ℕ) (a before after : ℕ) : Type 0 where
-  pub low : a ≤ after
+pub record FirstFrom (R : Relation) (need : List ℕ) (a before after : ℕ) : Type 0 where
   pub lookahead : after ≤ maxSide
   pub finite : before < endless
   pub is : before ≡ getD need after 0
-  pub first : (c : ℕ) → a ≤ c → c ≤ maxSide → getD need c 0 < endless → FewestLetters before after (getD need c 0) c
+  pub first : (c : ℕ) → a ≤ c → c ≤ maxSide → getD need c 0 < endless → R before after (getD need c 0) c
 
-pub first-start : (need : List ℕ) (x : ℕ) → x ≡ getD need maxSide 0 → getD need maxSide 0 < endless → FirstFrom need maxSide x maxSide
-first-start need x e l = record {
-  low = omega arith;
-  lookahead = omega arith;
-  finite = omega arith;
-  is = e;
-  first = λ c m n k. let z : c ≡ maxSide = omega arith in rw (z, e) (record { fewer = omega arith; tie = λ w. omega arith });
-}
-
-module _ {need : List ℕ} {a before after b : ℕ} (f : FirstFrom need a before after) (some : 0 < a) (e : b ≡ getD need (a - 1) 0) where
-  -- no candidate, or one with more letters
-  pub first-stays : (b < endless → before + after < b + (a - 1)) → FirstFrom need (a - 1) before after
-  first-stays h = record {
-    low = let l = f .low in omega arith;
-    lookahead = f .lookahead;
-    finite = f .finite;
-    is = f .is;
-    first = λ c m n k. elim (ℕ-discrete c (a - 1)) [
-      | yes z ↦ (let w : getD need c 0 ≡ b = rw z (sym e) in
-          let l = h (omega arith) in
-          rw (w, z) (record { fewer = omega arith; tie = λ y. absurd (omega arith) }))
-      | no z ↦ f .first c (omega arith) n k
-    ];
-  }
-
-  -- one with no more letters has less lookahead
-  pub first-changes : b < endless → b + (a - 1) ≤ before + after → FirstFrom need (a - 1) b (a - 1)
-  first-changes l m = record {
-    low = omega arith;
-    lookahead = let h = f .lookahead in let g = f .low in omega arith;
-    finite = l;
+module _ {R : Relation} (order : IsOrder R) where
+  pub first-start :
+      (need : List ℕ) (x : ℕ) → x ≡ getD need maxSide 0 → getD need maxSide 0 < endless → FirstFrom R need maxSide x maxSide
+  first-start need x e l = record {
+    lookahead = omega arith;
+    finite = omega arith;
     is = e;
-    first = λ c o n k. elim (ℕ-discrete c (a - 1)) [
-      | yes z ↦ (let w : getD need c 0 ≡ b = rw z (sym e) in rw (w, z) (record { fewer = omega arith; tie = λ y. omega arith }))
-      | no z ↦ (let h = f .first c (omega arith) n k in record { fewer = omega (arith, h .fewer); tie = λ y. omega arith })
-    ];
+    first = λ c m n k. let z : c ≡ maxSide = omega arith in rw (z, e) (order .larger _ _ _ _ (omega arith) (omega arith));
   }
+
+  module _ {need : List ℕ} {a before after b : ℕ} (f : FirstFrom R need a before after) (some : 0 < a) (e : b ≡ getD need (a - 1) 0) where
+    -- no candidate, or one that comes later
+    pub first-stays : (b < endless → R before after b (a - 1)) → FirstFrom R need (a - 1) before after
+    first-stays h = record {
+      lookahead = f .lookahead;
+      finite = f .finite;
+      is = f .is;
+      first = λ c m n k. elim (ℕ-discrete c (a - 1)) [
+        | yes z ↦ (let w : getD need c 0 ≡ b = rw z (sym e) in rw (w, z) (h (omega arith)))
+        | no z ↦ f .first c (omega arith) n k
+      ];
+    }
+
+    -- a candidate that comes no later
+    pub first-changes : a ≤ maxSide → b < endless → R b (a - 1) before after → FirstFrom R need (a - 1) b (a - 1)
+    first-changes l m r = record {
+      lookahead = omega arith;
+      finite = m;
+      is = e;
+      first = λ c o n k. elim (ℕ-discrete c (a - 1)) [
+        | yes z ↦ (let w : getD need c 0 ≡ b = rw z (sym e) in rw (w, z) (order .larger _ _ _ _ (omega arith) (omega arith)))
+        | no z ↦ order .transitive _ _ _ _ _ _ r (f .first c (omega arith) n k)
+      ];
+    }

@@ -9,7 +9,7 @@ use native.Mathlib.Decide.{decLt, decLe}
 use lib.ListN.{getD}
 use Rattle.mealy.specs.Setting.{Setting, Closed, worded}
 use Rattle.mealy.specs.Window.{Works}
-use Rattle.mealy.specs.Order.{Relation, Order, Least}
+use Rattle.mealy.specs.Order.{Relation, IsOrder, Least}
 use Rattle.mealy.specs.Product.{back, forward, Level, pairs}
 use Rattle.mealy.proofs.Levels.{down, level-start, level-fall}
 use Rattle.mealy.proofs.Windows.{Ambiguous, works→unambiguous, unambiguous→works}
@@ -176,7 +176,7 @@ module _ (c : Coder) (starts : ℕ) (conflicts : List ℕ) (sound : Sound c) (ba
 
     -- the first of the candidates is the least window among all, whatever their sides, and its own are small
     pub least-window :
-        {R : Relation} → Order R → Closed S → (w : Window) → Chosen R need w → Least R S (w .before) (w .after)
+        {R : Relation} → IsOrder R → Closed S → (w : Window) → Chosen R need w → Least R S (w .before) (w .after)
     least-window order closed w h =
         let settled = settled-by S (start-decided c back starts sound) (start-bounded c back starts sound) in
         rw (h .is)
@@ -184,7 +184,7 @@ module _ (c : Coder) (starts : ℕ) (conflicts : List ℕ) (sound : Sound c) (ba
         (λ a. getD need a 0) (need-is closed) (w .after) (h .lookahead) (h .finite) (λ a l m. rw (h .is) at (h .first a l m)))
 
   pub sides-small :
-      {R : Relation} → Order R → Closed S → (b a : ℕ) → Least R S b a → (b ≤ pairs (c .states)) × (a ≤ pairs (c .states))
+      {R : Relation} → IsOrder R → Closed S → (b a : ℕ) → Least R S b a → (b ≤ pairs (c .states)) × (a ≤ pairs (c .states))
   sides-small order closed =
       let settled = settled-by S (start-decided c back starts sound) (start-bounded c back starts sound) in
       let n = pairs (c .states) in

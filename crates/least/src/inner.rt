@@ -2,11 +2,11 @@
 ghost use mathlib.Core.Bool.{_&&_};
 ghost use mathlib.Core.Path.{_≡_};
 ghost use Prim.Native.Nat.{_<_, max};
-ghost use Rattle.mealy.specs.Order.{FewestLetters};
 ghost use lib.ListN.{getD};
 ghost use lib.Dec.{eqb};
 ghost use Rattle.coder.specs.Limits.{maxSide};
 ghost use Rattle.product.specs.Depth.{endless};
+ghost use Rattle.values.specs.Order.{relationOf};
 ghost use Rattle.least.specs.Need.{raised, CountAsked, CountedOne, RowAsked, RowCounted, ConflictsAsked, ConflictsDone};
 ghost use Rattle.least.specs.Need.{Needs, Chosen};
 use chains::inner::wide;
@@ -15,7 +15,9 @@ use coder::inner::tables::Coder;
 use product::inner::ENDLESS;
 use product::inner::Edge;
 use setting::inner::has;
+use values::Order;
 use values::Window;
+use values::inner::no_later;
 
 // Takes x in at place f of the table: the larger of the two stays.
 fn raise(worst: &mut [u8; 256], f: usize, x: u8)
@@ -152,10 +154,10 @@ fn larger(x: u8, y: u8) -> u8
     if x < y { y } else { x }
 }
 
-// The first of the candidates: fewest letters, and of equally many least lookahead.
-pub fn choose(need: &[u8; 256]) -> Window
+// The first of the candidates in the order.
+pub fn choose(order: Order, need: &[u8; 256]) -> Window
     requires { ⌜ getD (now need) maxSide 0 < endless ⌝ }
-    ensures { λ r. ⌜ Chosen FewestLetters (now (need .entry)) r ⌝ }
+    ensures { λ r. ⌜ Chosen (relationOf order) (now (need .entry)) r ⌝ }
 {
     let mut before = number(need[Coder::SIDE]);
     let mut after = Coder::SIDE;
@@ -165,7 +167,11 @@ pub fn choose(need: &[u8; 256]) -> Window
         let x = need[a];
         if x < ENDLESS {
             let b = number(x);
-            if b + a <= before + after {
+            let candidate = Window {
+                before: b,
+                after: a,
+            };
+            if no_later(order, candidate, Window { before, after }) {
                 before = b;
                 after = a;
             }

@@ -16,8 +16,9 @@ use Rattle.values.specs.declared.Window.{Window}
 use Rattle.values.specs.declared.LoopedPair as values
 use Rattle.fitting.proofs.Answers.{right-byte-unique}
 use Rattle.decoder.proofs.Writing.{written-unique}
-use Rattle.search.specs.Search.{order, Says, PairReport}
-use Rattle.search.proofs.Determined.{is-order}
+use Rattle.values.specs.Order.{relationOf, defaultOrder}
+use Rattle.values.proofs.Orders.{is-order}
+use Rattle.search.specs.Search.{Says, PairReport}
 use Rattle.search.specs.declared.Verdict.{Verdict}
 use Rattle.search.specs.declared.Verdict.the-variants.{Least, NoDecoder}
 use Rattle.checker.proofs.Judging.{judges-same}
@@ -72,10 +73,10 @@ module _ (f before result after after₂ result′ result₂ : List ℕ) where
       ⊎ (PairGiven f before result after result′ × PairGiven f before result after₂ result₂)
 
   verdicts :
-      (v u : Verdict) → Says order (settingOf f) v before after → Says order (settingOf f) u before after₂ →
+      (v u : Verdict) → Says (relationOf defaultOrder) (settingOf f) v before after → Says (relationOf defaultOrder) (settingOf f) u before after₂ →
       result′ ≡ withFields result (verdictFields v) → result₂ ≡ withFields result (verdictFields u) → SameButPair
   verdicts (Least w) (Least x) p q d e =
-      let same = least-unique is-order (settingOf f) _ _ _ _ (p .least) (q .least) in
+      let same = least-unique (is-order defaultOrder) (settingOf f) _ _ _ _ (p .least) (q .least) in
       inl (p .stays ∙ sym (q .stays), d ∙ ap₂ (λ (b a : ℕ). withFields result (0 ∷ b ∷ a ∷ [])) (same .0) (same .1) ∙ sym e)
   verdicts (Least w) (NoDecoder x) p q d e = absurd (q .none _ _ (p .least .works))
   verdicts (NoDecoder w) (Least x) p q d e = absurd (p .none _ _ (q .least .works))

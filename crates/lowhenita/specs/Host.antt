@@ -20,7 +20,8 @@ use Rattle.decoder.specs.Written.{Written}
 use Rattle.decoder.specs.Refusal.{windowRefusal, tableSize}
 use Rattle.decoder.specs.Places.{places, stringRefusalIn, ByteAt}
 use Rattle.decoder.specs.Table.{tableRefusalIn, EntryOf}
-use Rattle.search.specs.Search.{searchRefusal, wanted, order, Says}
+use Rattle.values.specs.Order.{relationOf, defaultOrder}
+use Rattle.search.specs.Search.{searchRefusal, wanted, Says}
 use Rattle.search.specs.declared.Verdict.{Verdict}
 use Rattle.checker.specs.Check.{checkRefusal}
 use Rattle.layout.specs.Layout.{resultBytes, withFields, verdictFields, numberOf}
@@ -59,10 +60,10 @@ RunHosted f s xs before result r after result′ =
 abbrev pub searchNumber : List ℕ → List ℕ → List ℕ → ℕ
 searchNumber f before result = searchRefusal f (leb wanted (length before) && roomy result)
 
--- There is a verdict that says what the search's own verdict says on these buffers, and the fields are its layout.
+-- There is a verdict that says what the verdict of a search in the default order says on these buffers, and the fields are its layout.
 pub record VerdictGiven (S : Setting) (before result after result′ : List ℕ) : Type 0 where
   pub verdict : Verdict
-  pub says : Says order S verdict before after
+  pub says : Says (relationOf defaultOrder) S verdict before after
   pub fields : result′ ≡ withFields result (verdictFields verdict)
 
 -- Demand 3 for a host ("Coders and runs", last sentence: the call hands on the search's answer): field 0 is 0 for a window, whose sides

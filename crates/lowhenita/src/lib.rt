@@ -6,6 +6,7 @@ ghost use Rattle.values.specs.Window.{window};
 ghost use Rattle.values.specs.Pair.{pairOf, loopedPair};
 ghost use Rattle.layout.specs.Layout.{resultBytes};
 ghost use Rattle.lowhenita.specs.Host.{RunHosted, SearchHosted, DecodeHosted, CheckHosted, WindowHosted, TableHosted};
+use values::inner::default_order;
 
 // The bytes of the result buffer that each call wants.
 const RESULT: usize = 64;
@@ -41,8 +42,8 @@ pub extern "C" fn lowhenita_run(
     0
 }
 
-// Finds the least window that works for a coder, or a looped pair where none does. Refusals 1 to 6, 11. Which looped pair is given is
-// left open.
+// Finds the least window that works for a coder in the default order, least lookahead, or a looped pair where none does. Refusals 1 to 6,
+// 11. Which looped pair is given is left open.
 #[no_mangle]
 pub extern "C" fn lowhenita_search(file: &[u8], letters: &mut [u8], result: &mut [u8]) -> usize
     ensures { λ r. ⌜ SearchHosted (now (file .entry)) (now (letters .entry)) (now (result .entry)) r (now (letters .exit)) (now (result .exit)) ⌝ }
@@ -52,7 +53,7 @@ pub extern "C" fn lowhenita_search(file: &[u8], letters: &mut [u8], result: &mut
     if k != 0 {
         return k;
     }
-    let verdict = search::inner::checked(file, letters);
+    let verdict = search::inner::checked(file, default_order(), letters);
     layout::inner::put_verdict(result, verdict);
     0
 }

@@ -7,13 +7,11 @@ use native.Mathlib.Omega.{arith}
 use native.Mathlib.Decide.{decLe, ℕ-discrete}
 use Rattle.mealy.specs.Setting.{Setting, Closed, Bounded}
 use Rattle.mealy.specs.Window.{Works}
-use Rattle.mealy.specs.Order.{Relation, Order, FewestLetters, Least}
+use Rattle.mealy.specs.Order.{Relation, IsOrder, Least}
 use Rattle.mealy.specs.Product.{Direction, back, forward, Settled, pairs}
 use Rattle.mealy.proofs.Windows.{works-settled, works-settled-back}
 use Rattle.mealy.proofs.Settling.{settled-by}
 use Rattle.mealy.proofs.Decisions.{dec-below, dec-works}
-
--- ---- in any order
 
 -- the least number with P, from one with P that is at most n
 least-number : (P : ℕ → Type 0) → ((m : ℕ) → Dec (P m)) → (n m : ℕ) → m ≤ n → P m → (l : ℕ) × P l × ((k : ℕ) → P k → l ≤ k)
@@ -23,7 +21,7 @@ least-number P d (suc n) m e p = elim (dec-below m P d) [
   | no z ↦ (m, p, λ k q. elim (decLe m k) [ yes l ↦ l | no l ↦ absurd (z (k, omega arith, q)) ])
 ]
 
-module _ {R : Relation} (order : Order R) (S : Setting) where
+module _ {R : Relation} (order : IsOrder R) (S : Setting) where
   pub least-unique : (b a b′ a′ : ℕ) → Least R S b a → Least R S b′ a′ → (b ≡ b′) × (a ≡ a′)
   least-unique b a b′ a′ p q = order .antisymmetric b a b′ a′ (p .least b′ a′ (q .works)) (q .least b a (p .works))
 
@@ -38,6 +36,16 @@ module _ {R : Relation} (order : Order R) (S : Setting) where
             (order .larger b′ L b′ a′ (omega arith) (omega arith))
       ];
     }
+
+    -- least among the windows whose sides are at most K and L: least among all
+    pub least-within :
+        (K : ℕ) → Settled S back K → (b a : ℕ) → Works S b a → ((b′ a′ : ℕ) → b′ ≤ K → a′ ≤ L → Works S b′ a′ → R b a b′ a′) →
+        Least R S b a
+    least-within K settledK b a f g = least-among b a f (λ b′ a′ l h. elim (decLe b′ K) [
+      | yes m ↦ g b′ a′ m l h
+      | no m ↦ order .transitive b a K a′ b′ a′ (g K a′ (omega arith) l (works-settled-back S closed K settledK b′ a′ h))
+          (order .larger K a′ b′ a′ (omega arith) (omega arith))
+    ])
 
     -- The candidates of lookahead a are those with at least `need a` letters before, where that is below `top`; elsewhere there
     -- is none.
@@ -161,32 +169,3 @@ module _ {R : Relation} (order : Order R) (S : Setting) where
         (s .0, s .1, least-among closed K (settled forward) (s .0) (s .1) (l .works) (λ b′ a′ m h. l .least b′ a′ (omega arith) h)))
         (λ z. absurd (z b K (omega arith) (works-settled S closed K (settled forward) b a f)))
         (below (suc K))
-
--- ---- fewest letters, then least lookahead
-
-pub fewest-letters : Order FewestLetters
-fewest-letters = record {
-  larger = λ b a b′ a′ l m. omega arith;
-  transitive = λ b a b′ a′ b″ a″ p q. record {
-    fewer = omega arith;
-    tie = λ e. let l = p .tie (omega arith) in let m = q .tie (omega arith) in omega arith;
-  };
-  antisymmetric = λ b a b′ a′ p q.
-      let l = p .tie (omega arith) in
-      let m = q .tie (omega arith) in
-      omega arith;
-  total = λ b a b′ a′. elim (decLe (b + 1 + a) (b′ + 1 + a′)) [
-    | no l ↦ inr (record { fewer = omega arith; tie = λ e. absurd (omega arith) })
-    | yes l ↦ elim (decLe (b′ + 1 + a′) (b + 1 + a)) [
-      | no m ↦ inl (record { fewer = l; tie = λ e. absurd (omega arith) })
-      | yes m ↦ elim (decLe a a′) [
-        | yes n ↦ inl (record { fewer = l; tie = λ e. n })
-        | no n ↦ inr (record { fewer = m; tie = λ e. omega arith })
-      ]
-    ]
-  ];
-}
-
--- of two windows of two letters, the one with less lookahead comes first
-pub less-lookahead : FewestLetters 1 0 0 1
-less-lookahead = omega arith

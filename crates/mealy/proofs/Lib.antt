@@ -9,6 +9,7 @@ pub mod Sums
 pub mod Decisions
 pub mod Settling
 pub mod LeastWindows
+pub mod Orders
 pub mod Walks
 pub mod PairParts
 pub mod PairWalks

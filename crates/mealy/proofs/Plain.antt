@@ -7,7 +7,7 @@ use lib.ListN.{getD}
 use Rattle.mealy.specs.Machine.{Machine, Total}
 use Rattle.mealy.specs.Setting.{Closed, Bounded, anyState}
 use Rattle.mealy.specs.Window.{Works, SameLetter}
-use Rattle.mealy.specs.Order.{Relation, Order, Least}
+use Rattle.mealy.specs.Order.{Relation, IsOrder, Least}
 use Rattle.mealy.specs.Product.{pairs}
 use Rattle.mealy.proofs.Settling.{some-or-none}
 use Rattle.mealy.proofs.LeastWindows.{least-exists}
@@ -36,7 +36,7 @@ module _ (M : Machine) where
     any-closed s i p l = total s i p l
 
     pub least-or-none :
-        {R : Relation} → Order R →
+        {R : Relation} → IsOrder R →
         ((b : ℕ) × (a : ℕ) × Least R (anyState M) b a) ⊎ ((b a : ℕ) → Works (anyState M) b a → ⊥)
     least-or-none order = elim (some-or-none (anyState M) any-start any-bounded any-closed any-conflict) [
       | inl w ↦ inl (least-exists order (anyState M) any-closed any-start any-bounded any-conflict (pairs (M .states)) (pairs (M .states)) w)

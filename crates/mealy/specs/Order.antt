@@ -1,4 +1,4 @@
--- The order of windows, and the least window that works.
+-- Orders of windows, and the least window that works.
 use Prim.Native.Nat.{ℕ, _+_, _≤_}
 use mathlib.Core.Path.{_≡_}
 use mathlib.Core.Logic.{_⊎_}
@@ -10,17 +10,24 @@ abbrev pub Relation : Type 1
 Relation = ℕ → ℕ → ℕ → ℕ → Type 0
 
 -- A total order in which a larger side is never better.
-pub record Order (R : Relation) : Type 0 where
+pub record IsOrder (R : Relation) : Type 0 where
   pub larger : (b a b′ a′ : ℕ) → b ≤ b′ → a ≤ a′ → R b a b′ a′
   pub transitive : (b a b′ a′ b″ a″ : ℕ) → R b a b′ a′ → R b′ a′ b″ a″ → R b a b″ a″
   pub antisymmetric : (b a b′ a′ : ℕ) → R b a b′ a′ → R b′ a′ b a → (b ≡ b′) × (a ≡ a′)
   pub total : (b a b′ a′ : ℕ) → R b a b′ a′ ⊎ R b′ a′ b a
 
--- The order of demand 3's last sentence ("Coders and runs" says it of the reported window): fewer letters, and of equally many
--- less lookahead.
-pub record FewestLetters (b a b′ a′ : ℕ) : Type 0 where
-  pub fewer : b + 1 + a ≤ b′ + 1 + a′
-  pub tie : b + 1 + a ≡ b′ + 1 + a′ → a ≤ a′
+-- Two numbers after one another: x decides and, where it is equal, y.
+pub record InTurn (x y x′ y′ : ℕ) : Type 0 where
+  pub first : x ≤ x′
+  pub second : x ≡ x′ → y ≤ y′
+
+-- The order that document 02, 1/13, makes the default: least lookahead and, of as much, fewest letters before.
+abbrev pub LeastLookahead : Relation
+LeastLookahead b a b′ a′ = InTurn a b a′ b′
+
+-- The order of demand 3's last sentence, the archive's: fewest letters and, of equally many, least lookahead.
+abbrev pub FewestLetters : Relation
+FewestLetters b a b′ a′ = InTurn (b + 1 + a) a (b′ + 1 + a′) a′
 
 -- The window works, and comes no later than any other that works, whatever its sides.
 pub record Least (R : Relation) (S : Setting) (b a : ℕ) : Type 0 where

@@ -9,7 +9,8 @@ use lib.Seq.{ext-getD, getD-take, length-take-le}
 use Rattle.mealy.specs.Setting.{Setting}
 use Rattle.mealy.proofs.LeastWindows.{least-unique}
 use Rattle.coder.specs.File.{fileRefusal, statesOf, inputsOf, outputsOf, settingOf}
-use Rattle.search.proofs.Determined.{is-order}
+use Rattle.values.specs.Order.{defaultOrder}
+use Rattle.values.proofs.Orders.{is-order}
 use Rattle.report_text.specs.Report.{coderLine, SecondLine, ReportPromise}
 use Rattle.report_text.specs.Report.SecondLine.{a-window, no-window}
 use Rattle.report_text.specs.Text.{textOf, Padded}
@@ -17,7 +18,7 @@ use Rattle.report_text.specs.declared.Text.{Text}
 
 second-determined : (S : Setting) (x y : List ℕ) → SecondLine S x → SecondLine S y → x ≡ y
 second-determined S x y (a-window b a p) (a-window b′ a′ q) =
-    let e = least-unique is-order S b a b′ a′ p q in
+    let e = least-unique (is-order defaultOrder) S b a b′ a′ p q in
     rw (e .0, e .1)
 second-determined S x y (a-window b a p) (no-window n) = absurd (n b a (p .works))
 second-determined S x y (no-window n) (a-window b a p) = absurd (n b a (p .works))

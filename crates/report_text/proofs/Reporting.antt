@@ -17,7 +17,8 @@ use Rattle.coder.proofs.Accepted.{accepted}
 use Rattle.product.proofs.Depths.{pairs-high}
 use Rattle.values.specs.declared.Window.{Window}
 use Rattle.values.specs.declared.LoopedPair.{LoopedPair}
-use Rattle.search.specs.Search.{searchRefusal, wanted, order, Says, WindowReport, PairReport, FoundVerdict, SearchPromise}
+use Rattle.values.specs.Order.{relationOf, defaultOrder}
+use Rattle.search.specs.Search.{searchRefusal, wanted, Says, WindowReport, PairReport, FoundVerdict, SearchPromise}
 use Rattle.search.specs.declared.SearchResult.{SearchResult}
 use Rattle.search.specs.declared.SearchResult.the-variants.{Refused as RefusedSearch, Found}
 use Rattle.search.specs.declared.Verdict.{Verdict}
@@ -124,13 +125,13 @@ module _ (f before after : List ℕ) (ok : fileRefusal f ≡ 0) (long : wanted �
   unfolding searchRefusal
   not-refused = let l : wanted ≤ length before = omega arith in rw (ok, le-leb wanted (length before) l)
 
-  found : {r : SearchResult} → SearchPromise f before r after → FoundVerdict order (settingOf f) r before after
+  found : {r : SearchResult} → SearchPromise defaultOrder f before r after → FoundVerdict (relationOf defaultOrder) (settingOf f) r before after
   found p = rw not-refused at p
 
-  pub never-refused : {r : SearchResult} {k : ℕ} → SearchPromise f before r after → r ≡ RefusedSearch k → ⊥
+  pub never-refused : {r : SearchResult} {k : ℕ} → SearchPromise defaultOrder f before r after → r ≡ RefusedSearch k → ⊥
   never-refused p e = let g = found p in let d = g .is in let z : _≡_ {A = ℕ} 0 1 = cc in absurd (omega arith)
 
-  says : {r : SearchResult} {v : Verdict} → SearchPromise f before r after → r ≡ Found v → Says order (settingOf f) v before after
+  says : {r : SearchResult} {v : Verdict} → SearchPromise defaultOrder f before r after → r ≡ Found v → Says (relationOf defaultOrder) (settingOf f) v before after
   says {r} {v} p e =
       let g = found p in
       let d = g .is in
@@ -138,12 +139,12 @@ module _ (f before after : List ℕ) (ok : fileRefusal f ≡ 0) (long : wanted �
       rw z (g .says)
 
   window-found :
-      {r : SearchResult} {v : Verdict} {w : Window} → SearchPromise f before r after → r ≡ Found v → v ≡ Least w →
-      WindowReport order (settingOf f) w before after
+      {r : SearchResult} {v : Verdict} {w : Window} → SearchPromise defaultOrder f before r after → r ≡ Found v → v ≡ Least w →
+      WindowReport (relationOf defaultOrder) (settingOf f) w before after
   window-found p e d = rw d at (says p e)
 
   pair-found :
-      {r : SearchResult} {v : Verdict} {q : LoopedPair} → SearchPromise f before r after → r ≡ Found v → v ≡ NoDecoder q →
+      {r : SearchResult} {v : Verdict} {q : LoopedPair} → SearchPromise defaultOrder f before r after → r ≡ Found v → v ≡ NoDecoder q →
       PairReport (settingOf f) q before after
   pair-found p e d = rw d at (says p e)
 
@@ -152,7 +153,7 @@ module _ (f before after : List ℕ) (ok : fileRefusal f ≡ 0) (long : wanted �
   states-are = refl
 
   pub window-short :
-      {r : SearchResult} {v : Verdict} {w : Window} → SearchPromise f before r after → r ≡ Found v → v ≡ Least w →
+      {r : SearchResult} {v : Verdict} {w : Window} → SearchPromise defaultOrder f before r after → r ≡ Found v → v ≡ Least w →
       (w .before < 1000) × (w .after < 1000)
   window-short p e d =
       let high : pairs (machineOf f .states) ≤ 136 = rw states-are (pairs-high (statesOf f) (accepted f ok .entries .limits .states-high)) in
@@ -160,7 +161,7 @@ module _ (f before after : List ℕ) (ok : fileRefusal f ≡ 0) (long : wanted �
       (omega (arith, w .before-small), omega (arith, w .after-small))
 
   pub window-second :
-      {r : SearchResult} {v : Verdict} {w : Window} {out out′ : List ℕ} {at next : ℕ} → SearchPromise f before r after → r ≡ Found v →
+      {r : SearchResult} {v : Verdict} {w : Window} {out out′ : List ℕ} {at next : ℕ} → SearchPromise defaultOrder f before r after → r ≡ Found v →
       v ≡ Least w → Placed out at (windowLine (w .before) (w .after)) out′ next → SecondWritten (settingOf f) out at out′ next
   window-second {r} {v} {w} p e d q =
       let l = window-short p e d in
@@ -172,6 +173,6 @@ module _ (f before after : List ℕ) (ok : fileRefusal f ≡ 0) (long : wanted �
       }
 
   pub no-decoder-second :
-      {r : SearchResult} {v : Verdict} {w : LoopedPair} {out out′ : List ℕ} {at next : ℕ} → SearchPromise f before r after →
+      {r : SearchResult} {v : Verdict} {w : LoopedPair} {out out′ : List ℕ} {at next : ℕ} → SearchPromise defaultOrder f before r after →
       r ≡ Found v → v ≡ NoDecoder w → Placed out at noDecoderLine out′ next → SecondWritten (settingOf f) out at out′ next
   no-decoder-second p e d q = record { line = noDecoderLine; right = no-window (pair-found p e d .none); is = q; short = omega (arith, q .end) }

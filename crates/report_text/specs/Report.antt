@@ -8,7 +8,7 @@ use Rattle.mealy.specs.Order.{Least}
 use Rattle.coder.specs.Refusal.{upon}
 use Rattle.text.specs.Decimal.{decimal}
 use Rattle.coder.specs.File.{fileRefusal, statesOf, inputsOf, outputsOf, settingOf}
-use Rattle.search.specs.Search.{order}
+use Rattle.values.specs.Order.{relationOf, defaultOrder}
 
 -- ---- words, in ASCII
 
@@ -48,9 +48,9 @@ noDecoderLine = 110 ∷ 111 ∷ 32 ∷ 100 ∷ 101 ∷ 99 ∷ 111 ∷ 100 ∷ 10
 
 -- ---- the report
 
--- Which second line is right: that of the least window that works, or that of no decoder where no window works.
+-- Which second line is right: that of the least window that works, in the default order (document 02, 1/13), or that of no decoder where no window works.
 pub data SecondLine (S : Setting) : List ℕ → Type 0 where
-  a-window : (b a : ℕ) → Least order S b a → SecondLine S (windowLine b a)
+  a-window : (b a : ℕ) → Least (relationOf defaultOrder) S b a → SecondLine S (windowLine b a)
   no-window : ((b a : ℕ) → Works S b a → ⊥) → SecondLine S noDecoderLine
 
 -- The text is this first line, and the right second line behind it.

@@ -8,36 +8,39 @@ use lib.ListN.{length}
 use lib.Dec.{leb}
 use Rattle.mealy.specs.Setting.{Setting}
 use Rattle.mealy.specs.Window.{Works}
-use Rattle.mealy.specs.Order.{Relation, Order}
-use Rattle.mealy.proofs.LeastWindows.{least-unique, fewest-letters}
+use Rattle.mealy.specs.Order.{Relation, IsOrder}
+use Rattle.mealy.proofs.LeastWindows.{least-unique}
 use Rattle.coder.specs.File.{settingOf}
+use Rattle.coder.proofs.Refusals.{upon-done}
 use Rattle.values.specs.Window.{window}
+use Rattle.values.specs.Order.{relationOf}
 use Rattle.values.specs.declared.Window.{Window}
-use Rattle.search.specs.Search.{searchRefusal, wanted, order, PairReport, Says, IsNoDecoder, FoundVerdict, SearchPromise}
+use Rattle.values.specs.declared.Order.{Order}
+use Rattle.values.specs.declared.LoopedPair.{LoopedPair}
+use Rattle.values.proofs.Orders.{is-order}
+use Rattle.search.specs.Search.{searchRefusal, wanted, PairReport, Says, IsNoDecoder, FoundVerdict, SearchPromise}
 use Rattle.search.specs.declared.Verdict.{Verdict}
 use Rattle.search.specs.declared.Verdict.the-variants.{Least, NoDecoder}
 use Rattle.search.specs.declared.SearchResult.{SearchResult}
 use Rattle.search.specs.declared.SearchResult.the-variants.{Refused, Found}
 
-pub is-order : Order order
-is-order = fewest-letters
-
 -- ---- a search that was not refused
 
 -- no number applies, and its verdict says what it is to say
-pub record FoundSays (f before : List ℕ) (v : Verdict) (after : List ℕ) : Type 0 where
+pub record FoundSays (o : Order) (f before : List ℕ) (v : Verdict) (after : List ℕ) : Type 0 where
   pub accepted : searchRefusal f (leb wanted (length before)) ≡ 0
-  pub says : Says order (settingOf f) v before after
+  pub says : Says (relationOf o) (settingOf f) v before after
 
 pub found :
-    (f before : List ℕ) (v : Verdict) (after : List ℕ) → SearchPromise f before (Found v) after → FoundSays f before v after
-found f before v after = go (searchRefusal f (leb wanted (length before))) refl
+    (o : Order) (f before : List ℕ) (v : Verdict) (after : List ℕ) → SearchPromise o f before (Found v) after →
+    FoundSays o f before v after
+found o f before v after = go (searchRefusal f (leb wanted (length before))) refl
   where
     go :
-        (k : ℕ) → searchRefusal f (leb wanted (length before)) ≡ k → SearchPromise f before (Found v) after →
-        FoundSays f before v after
+        (k : ℕ) → searchRefusal f (leb wanted (length before)) ≡ k → SearchPromise o f before (Found v) after →
+        FoundSays o f before v after
     go zero e p =
-        let q : FoundVerdict order (settingOf f) (Found v) before after = rw e at p in
+        let q : FoundVerdict (relationOf o) (settingOf f) (Found v) before after = rw e at p in
         let d = q .is in
         let z : v ≡ q .verdict = cc in
         record { accepted = e; says = rw z (q .says) }
@@ -57,9 +60,26 @@ exactly R S (NoDecoder p) before after h = (λ x. h .none, λ none. tt)
 
 -- Demand 3, first sentence, in both directions: "no decoder" where windows of all sizes fail, and there alone.
 pub no-decoder-exactly :
-    (f before : List ℕ) (v : Verdict) (after : List ℕ) → SearchPromise f before (Found v) after →
+    (o : Order) (f before : List ℕ) (v : Verdict) (after : List ℕ) → SearchPromise o f before (Found v) after →
     IsNoDecoder v ↔ ((b a : ℕ) → Works (settingOf f) b a → ⊥)
-no-decoder-exactly f before v after h = exactly order (settingOf f) v before after (found f before v after h .says)
+no-decoder-exactly o f before v after h = exactly (relationOf o) (settingOf f) v before after (found o f before v after h .says)
+
+-- "no decoder" in one order exactly where in any other: two searches of one file, whatever their buffers
+pub no-decoder-any-order :
+    (o o′ : Order) (f before before′ : List ℕ) (v v′ : Verdict) (after after′ : List ℕ) → SearchPromise o f before (Found v) after →
+    SearchPromise o′ f before′ (Found v′) after′ → IsNoDecoder v ↔ IsNoDecoder v′
+no-decoder-any-order o o′ f before before′ v v′ after after′ h h′ =
+    let e = no-decoder-exactly o f before v after h in
+    let e′ = no-decoder-exactly o′ f before′ v′ after′ h′ in
+    (λ n. e′ .1 (e .0 n), λ n. e .1 (e′ .0 n))
+
+-- what is promised of a search that reports no window does not hang on the order
+pub pair-any-order :
+    (o o′ : Order) (f before : List ℕ) (p : LoopedPair) (after : List ℕ) → SearchPromise o f before (Found (NoDecoder p)) after →
+    SearchPromise o′ f before (Found (NoDecoder p)) after
+pair-any-order o o′ f before p after h =
+    let s = found o f before (NoDecoder p) after h in
+    upon-done _ _ _ (s .accepted) (record { verdict = NoDecoder p; is = refl; says = s .says })
 
 -- ---- two outcomes of one call
 
@@ -83,28 +103,28 @@ window-same : (w w′ : Window) → w .before ≡ w′ .before → w .after ≡ 
 window-same w w′ e d = ap₂ window e d
 
 verdict-determined :
-    {R : Relation} → Order R → (S : Setting) (before : List ℕ) (v v′ : Verdict) (after after′ : List ℕ) → Says R S v before after →
+    {R : Relation} → IsOrder R → (S : Setting) (before : List ℕ) (v v′ : Verdict) (after after′ : List ℕ) → Says R S v before after →
     Says R S v′ before after′ → SameVerdict S before v after v′ after′
-verdict-determined o S before (Least w) (Least w′) after after′ p q =
-    let e = least-unique o S (w .before) (w .after) (w′ .before) (w′ .after) (p .least) (q .least) in
+verdict-determined order S before (Least w) (Least w′) after after′ p q =
+    let e = least-unique order S (w .before) (w .after) (w′ .before) (w′ .after) (p .least) (q .least) in
     (window-same w w′ (e .0) (e .1), p .stays ∙ sym (q .stays))
-verdict-determined o S before (Least w) (NoDecoder p′) after after′ p q = q .none (w .before) (w .after) (p .least .works)
-verdict-determined o S before (NoDecoder p₀) (Least w′) after after′ p q = p .none (w′ .before) (w′ .after) (q .least .works)
-verdict-determined o S before (NoDecoder p₀) (NoDecoder p′) after after′ p q = (p, q)
+verdict-determined order S before (Least w) (NoDecoder p′) after after′ p q = q .none (w .before) (w .after) (p .least .works)
+verdict-determined order S before (NoDecoder p₀) (Least w′) after after′ p q = p .none (w′ .before) (w′ .after) (q .least .works)
+verdict-determined order S before (NoDecoder p₀) (NoDecoder p′) after after′ p q = (p, q)
 
--- Two outcomes that meet the promise for the same arguments are equal but for which looped pair is given, and its bytes.
+-- Two outcomes that meet the promise for the same arguments, the order among them, are equal but for which looped pair is given, and its bytes.
 pub search-determined :
-    (f before : List ℕ) (r r′ : SearchResult) (after after′ : List ℕ) → SearchPromise f before r after →
-    SearchPromise f before r′ after′ → SameButPair (settingOf f) before r after r′ after′
-search-determined f before r r′ after after′ = go (searchRefusal f (leb wanted (length before))) refl
+    (o : Order) (f before : List ℕ) (r r′ : SearchResult) (after after′ : List ℕ) → SearchPromise o f before r after →
+    SearchPromise o f before r′ after′ → SameButPair (settingOf f) before r after r′ after′
+search-determined o f before r r′ after after′ = go (searchRefusal f (leb wanted (length before))) refl
   where
     go :
-        (k : ℕ) → searchRefusal f (leb wanted (length before)) ≡ k → SearchPromise f before r after →
-        SearchPromise f before r′ after′ → SameButPair (settingOf f) before r after r′ after′
+        (k : ℕ) → searchRefusal f (leb wanted (length before)) ≡ k → SearchPromise o f before r after →
+        SearchPromise o f before r′ after′ → SameButPair (settingOf f) before r after r′ after′
     go zero e p q =
         let x = rw e at p in
         let y = rw e at q in
-        rw (x .is) (rw (y .is) (verdict-determined is-order (settingOf f) before (x .verdict) (y .verdict) after after′ (x .says) (y .says)))
+        rw (x .is) (rw (y .is) (verdict-determined (is-order o) (settingOf f) before (x .verdict) (y .verdict) after after′ (x .says) (y .says)))
     go (suc k) e p q =
         let x = rw e at p in
         let y = rw e at q in

@@ -5,7 +5,7 @@ use Prim.Native.Nat.{ℕ, _<_}
 use native.Mathlib.Omega.{arith}
 use lib.ListN.{getD, replicate}
 use Rattle.mealy.specs.Setting.{Setting, Closed, worded}
-use Rattle.mealy.specs.Order.{Relation, Order}
+use Rattle.mealy.specs.Order.{Relation, IsOrder}
 use Rattle.mealy.specs.Product.{back, forward}
 use Rattle.mealy.proofs.LoopedPairs.{turned-runs, excludes}
 use Rattle.coder.specs.Table.{machineOfCoder, Sound}
@@ -44,7 +44,7 @@ module _ (c : Coder) (starts : ℕ) (conflicts : List ℕ) (sound : Sound c)
         (done .sources (no-sources c conflicts backs forwards)) needs
 
     pub window-says :
-        {R : Relation} → Order R → (w : Window) (letters : List ℕ) → Chosen R need w → Says R S (Least w) letters letters
+        {R : Relation} → IsOrder R → (w : Window) (letters : List ℕ) → Chosen R need w → Says R S (Least w) letters letters
     window-says order w letters h =
         let l =
         least-window c starts conflicts sound backs forwards (found-back .depths) (found-forward .depths) worst need (done .none none)

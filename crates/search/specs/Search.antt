@@ -7,14 +7,16 @@ use lib.ListN.{length, drop}
 use lib.Dec.{leb}
 use Rattle.mealy.specs.Setting.{Setting}
 use Rattle.mealy.specs.Window.{Works}
-use Rattle.mealy.specs.Order.{Relation, FewestLetters, Least as LeastOf}
+use Rattle.mealy.specs.Order.{Relation, Least as LeastOf}
 use Rattle.mealy.specs.Product.{pairs}
 use Rattle.mealy.specs.LoopedPair.{letters, Valid, Short, TurnedRuns}
 use Rattle.coder.specs.Refusal.{refuse, first, upon}
 use Rattle.coder.specs.File.{fileRefusal, settingOf}
 pub use Rattle.loops.specs.Pair.{wanted}
+use Rattle.values.specs.Order.{relationOf}
 use Rattle.values.specs.Pair.{pairOf}
 use Rattle.values.specs.declared.Window.{Window}
+use Rattle.values.specs.declared.Order.{Order}
 use Rattle.values.specs.declared.LoopedPair.{LoopedPair}
 use Rattle.search.specs.declared.Verdict.{Verdict}
 use Rattle.search.specs.declared.Verdict.the-variants.{Least, NoDecoder}
@@ -25,12 +27,8 @@ use Rattle.search.specs.declared.SearchResult.the-variants.{Refused, Fou
 unfoldable pub searchRefusal : List ℕ → Bool → ℕ
 searchRefusal f fits = first (fileRefusal f) (refuse (not fits) 11 0)
 
--- The order in which the reported window is the least.
-abbrev pub order : Relation
-order = FewestLetters
-
--- Demand 3, third sentence ("Coders and runs" has the bound on the sides): the window is in R the least among all that work, whatever
--- their sides. The buffer stays.
+-- Demand 3, third sentence ("Coders and runs" has the bound on the sides): the window is in R, the order that the search is made in, the
+-- least among all that work, whatever their sides. The buffer stays.
 pub record WindowReport (R : Relation) (S : Setting) (w : Window) (before after : List ℕ) : Type 0 where
   pub least : LeastOf R S (w .before) (w .after)
   pub before-small : w .before ≤ pairs (S .M .states)
@@ -67,8 +65,9 @@ pub record RefusedSearch (k : ℕ) (r : SearchResult) (before after : List ℕ) 
   pub is : r ≡ Refused k
   pub stays : after ≡ before
 
--- The first refusal that applies and the buffer as it was, or a verdict that is right for the file's machine.
-abbrev pub SearchPromise : List ℕ → List ℕ → SearchResult → List ℕ → Type 0
-SearchPromise f before r after =
+-- The first refusal that applies and the buffer as it was, or a verdict that is right for the file's machine, with the least window in the
+-- order o (document 02, 1/13).
+abbrev pub SearchPromise : Order → List ℕ → List ℕ → SearchResult → List ℕ → Type 0
+SearchPromise o f before r after =
     upon (searchRefusal f (leb wanted (length before))) (λ k. RefusedSearch k r before after)
-    (FoundVerdict order (settingOf f) r before after)
+    (FoundVerdict (relationOf o) (settingOf f) r before after)

@@ -6,9 +6,11 @@ ghost use lib.ListN.{length};
 ghost use Rattle.mealy.specs.Setting.{Closed, worded};
 ghost use Rattle.coder.specs.File.{settingOf};
 ghost use Rattle.coder.specs.Table.{machineOfCoder, Sound};
-ghost use Rattle.search.specs.Search.{searchRefusal, wanted, order, Says};
+ghost use Rattle.values.specs.Order.{relationOf};
+ghost use Rattle.search.specs.Search.{searchRefusal, wanted, Says};
 use crate::Verdict;
 use coder::inner::tables::Coder;
+use values::Order;
 
 // The bytes that the search wants for any verdict.
 pub const WANTED: usize = 1026;
@@ -24,10 +26,17 @@ pub fn refusal(file: &[u8], fits: bool) -> usize
     if fits { 0 } else { 11 }
 }
 
-// The verdict on a coder whose runs start in the states of the word, word i of `conflicts` holding the letters that conflict with i.
-pub fn verdict(c: Coder, starts: u16, conflicts: &[u16; 16], letters: &mut [u8]) -> Verdict
+// The verdict on a coder whose runs start in the states of the word, word i of `conflicts` holding the letters that conflict with i; the
+// window is the least in the order.
+pub fn verdict(
+    c: Coder,
+    starts: u16,
+    conflicts: &[u16; 16],
+    order: Order,
+    letters: &mut [u8],
+) -> Verdict
     requires { ⌜ Sound c × Closed (worded (machineOfCoder c) starts (now conflicts)) × (wanted ≤ length (now letters)) ⌝ }
-    ensures { λ r. ⌜ Says order (worded (machineOfCoder c) starts (now (conflicts .entry))) r (now (letters .entry)) (now (letters .exit)) ⌝ }
+    ensures { λ r. ⌜ Says (relationOf order) (worded (machineOfCoder c) starts (now (conflicts .entry))) r (now (letters .entry)) (now (letters .exit)) ⌝ }
 {
     let states = c.states;
     let inputs = c.inputs;
@@ -51,18 +60,18 @@ pub fn verdict(c: Coder, starts: u16, conflicts: &[u16; 16], letters: &mut [u8])
     let x = e.x;
     if x == 0 {
         let need = least::inner::needs(&worst);
-        return Verdict::Least(least::inner::choose(&need));
+        return Verdict::Least(least::inner::choose(order, &need));
     }
     Verdict::NoDecoder(loops::inner::find(c, &bx, &by, &fx, &fy, e, letters))
 }
 
-// The verdict on a file that is not refused.
-pub fn checked(file: &[u8], letters: &mut [u8]) -> Verdict
+// The verdict on a file that is not refused, the window being the least in the order.
+pub fn checked(file: &[u8], order: Order, letters: &mut [u8]) -> Verdict
     requires { ⌜ searchRefusal (now file) (leb wanted (length (now letters))) ≡ 0 ⌝ }
-    ensures { λ r. ⌜ Says order (settingOf (now (file .entry))) r (now (letters .entry)) (now (letters .exit)) ⌝ }
+    ensures { λ r. ⌜ Says (relationOf order) (settingOf (now (file .entry))) r (now (letters .entry)) (now (letters .exit)) ⌝ }
 {
     let c = Coder::from_checked(file);
     let starts = setting::inner::start_states(c);
     let conflicts = setting::inner::different_letters();
-    verdict(c, starts, &conflicts, letters)
+    verdict(c, starts, &conflicts, order, letters)
 }

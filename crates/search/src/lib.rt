@@ -1,5 +1,7 @@
-// The window search. docs/public-calls.md describes the call.
+// The window search. docs/public-calls.md describes the calls.
+ghost use Rattle.values.specs.Order.{defaultOrder};
 ghost use Rattle.search.specs.Search.{SearchPromise};
+use values::Order;
 
 pub mod inner; // inner.rt: what the crates above call on checked bytes; no public calls
 
@@ -15,14 +17,21 @@ pub enum SearchResult {
     Found(Verdict),
 }
 
-// Finds the least window that works for a coder, or a looped pair where none does. Refusals 1 to 6, 11. Which looped pair is given is
-// left open.
+// Finds the least window that works for a coder in the default order, or a looped pair where none does. Refusals 1 to 6, 11. Which looped
+// pair is given is left open.
 pub fn search(file: &[u8], letters: &mut [u8]) -> SearchResult
-    ensures { λ r. ⌜ SearchPromise (now (file .entry)) (now (letters .entry)) r (now (letters .exit)) ⌝ }
+    ensures { λ r. ⌜ SearchPromise defaultOrder (now (file .entry)) (now (letters .entry)) r (now (letters .exit)) ⌝ }
+{
+    search_in_order(file, values::inner::default_order(), letters)
+}
+
+// The same in an order that the caller names.
+pub fn search_in_order(file: &[u8], order: Order, letters: &mut [u8]) -> SearchResult
+    ensures { λ r. ⌜ SearchPromise order (now (file .entry)) (now (letters .entry)) r (now (letters .exit)) ⌝ }
 {
     let k = inner::refusal(file, inner::WANTED <= letters.len());
     if k != 0 {
         return SearchResult::Refused(k);
     }
-    SearchResult::Found(inner::checked(file, letters))
+    SearchResult::Found(inner::checked(file, order, letters))
 }

@@ -21,6 +21,9 @@ use Rattle.running.specs.Run.{runRefusal, runRefusalIn, RunPromise}
 use Rattle.running.specs.declared.RunResult as run-result
 use Rattle.values.specs.Window.{size}
 use Rattle.values.specs.declared.Window.{Window}
+use Rattle.values.specs.Order.{relationOf, defaultOrder}
+use Rattle.values.specs.declared.Order.{Order}
+use Rattle.values.specs.declared.Order.the-variants.{LeastLookahead, FewestLetters}
 use Rattle.fitting.specs.Answer.{meaning, RightByte}
 use Rattle.fitting.specs.declared.Answer.{Answer}
 use Rattle.fitting.specs.declared.Answer.the-variants.{None}
@@ -33,7 +36,7 @@ use Rattle.decoder.specs.declared.WindowResult as window-result
 use Rattle.decoder.specs.declared.CountResult.{CountResult}
 use Rattle.decoder.specs.declared.CountResult as count-result
 use Rattle.decoder.proofs.Accepting.{window-accepted}
-use Rattle.search.specs.Search.{searchRefusal, wanted, order, Says, RefusedSearch, SearchPromise}
+use Rattle.search.specs.Search.{searchRefusal, wanted, Says, RefusedSearch, SearchPromise}
 use Rattle.search.specs.declared.SearchResult.{SearchResult}
 use Rattle.search.specs.declared.SearchResult as search-result
 use Rattle.search.specs.declared.SearchResult.the-variants.{Found}
@@ -43,7 +46,7 @@ use Rattle.search.proofs.Determined.{found, no-decoder-exactly}
 use Rattle.checker.specs.Check.{checkRefusal}
 use Rattle.lowhenita.specs.Host.{roomy, Hosted}
 use Rattle.theorems.specs.Published.{longEnough, givenResult}
-use Rattle.theorems.specs.Demands.{Demand1, Said, SaidByte, Demand2, Demand3, Demanded, FromC}
+use Rattle.theorems.specs.Demands.{Demand1, Said, SaidByte, Demand2, Demand3, NoneBefore, Demanded, FromC}
 use Rattle.theorems.proofs.Published.{file-published, run-published, search-published, check-published, window-published, string-published, table-published}
 use Rattle.theorems.proofs.Counted.{counted}
 use Rattle.theorems.proofs.Handing.{search-found, run-handed, search-handed, decode-handed, table-handed, check-handed, window-handed}
@@ -106,7 +109,7 @@ demand-1 = record {
   string = λ f w received before r after p.
       moved _ _ (string-published f w received before []) (count-upon _ _ _ before r after p);
   table = λ f w before r after p. moved _ _ (table-published f w before []) (count-upon _ _ _ before r after p);
-  search = λ f before r after p.
+  search = λ o f before r after p.
       moved _ _ (ap (searchRefusal f) (sym (both-right (leb wanted (length before)))) ∙ search-published f before [])
       (search-upon (searchRefusal f (leb wanted (length before))) _ r before after p);
   check = λ f p r q. moved _ _ (check-published f p []) q;
@@ -211,16 +214,22 @@ demand-2 = record {
 
 -- ---- demand 3
 
-demanded : (f before : List ℕ) (v : Verdict) (after : List ℕ) → SearchPromise f before (Found v) after → Demanded f v after
-demanded f before v after p =
-    let says : Says order (settingOf f) v before after = found f before v after p .says in
+none-before : (o : Order) (w : Window) (b a : ℕ) → relationOf o (w .before) (w .after) b a → NoneBefore o w b a
+none-before FewestLetters w b a r = (r .first, r .second)
+none-before LeastLookahead w b a r = (r .first, r .second)
+
+demanded :
+    (o : Order) (f before : List ℕ) (v : Verdict) (after : List ℕ) → SearchPromise o f before (Found v) after → Demanded o f v after
+demanded o f before v after p =
+    let says : Says (relationOf o) (settingOf f) v before after = found o f before v after p .says in
     record {
-      exactly = no-decoder-exactly f before v after p;
-      valid = λ q e. let s : Says order (settingOf f) (NoDecoder q) before after = rw e at says in s .valid;
-      turned = λ q e. let s : Says order (settingOf f) (NoDecoder q) before after = rw e at says in s .turned;
-      works = λ w e. let s : Says order (settingOf f) (Least w) before after = rw e at says in s .least .works;
-      fewest = λ w e b a h. let s : Says order (settingOf f) (Least w) before after = rw e at says in s .least .least b a h .fewer;
-      less-lookahead = λ w e b a h. let s : Says order (settingOf f) (Least w) before after = rw e at says in s .least .least b a h .tie;
+      exactly = no-decoder-exactly o f before v after p;
+      valid = λ q e. let s : Says (relationOf o) (settingOf f) (NoDecoder q) before after = rw e at says in s .valid;
+      turned = λ q e. let s : Says (relationOf o) (settingOf f) (NoDecoder q) before after = rw e at says in s .turned;
+      works = λ w e. let s : Says (relationOf o) (settingOf f) (Least w) before after = rw e at says in s .least .works;
+      none-before = λ w e b a h.
+          let s : Says (relationOf o) (settingOf f) (Least w) before after = rw e at says in
+          none-before o w b a (s .least .least b a h);
     }
 
 pub demand-3 : Demand3
@@ -228,7 +237,7 @@ demand-3 = record {
   search = demanded;
   search-from-C = λ f before result after result′ h.
       let g = search-found f before result after result′ h in
-      (g .verdict, g .fields, demanded f before (g .verdict) after (g .promised));
+      (g .verdict, g .fields, demanded defaultOrder f before (g .verdict) after (g .promised));
 }
 
 -- ---- the calls from C

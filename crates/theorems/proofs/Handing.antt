@@ -26,6 +26,7 @@ use Rattle.decoder.specs.Table.{tableRefusalIn, TablePromise}
 use Rattle.decoder.specs.Window.{WindowPromise}
 use Rattle.decoder.specs.declared.WindowResult as window
 use Rattle.decoder.specs.declared.CountResult as count
+use Rattle.values.specs.Order.{defaultOrder}
 use Rattle.search.specs.Search.{searchRefusal, wanted, SearchPromise}
 use Rattle.search.specs.declared.SearchResult as search
 use Rattle.checker.specs.Check.{checkRefusal, CheckPromise}
@@ -121,7 +122,7 @@ module _ (result : List ℕ) (long : resultBytes ≤ length result) where
 
   pub search-handed :
       (f before : List ℕ) (r : ℕ) (after result′ : List ℕ) → SearchHosted f before result r after result′ →
-      Handed (λ own. SearchPromise f before own after) laidSearch result r result′
+      Handed (λ own. SearchPromise defaultOrder f before own after) laidSearch result r result′
   unfolding fieldsOf
   search-handed f before r after result′ h =
       hand (searchRefusal f (leb wanted (length before)))

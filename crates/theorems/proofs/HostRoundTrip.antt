@@ -14,6 +14,7 @@ use Rattle.product.proofs.Depths.{pairs-high}
 use Rattle.values.specs.Window.{window}
 use Rattle.decoder.specs.Places.{places}
 use Rattle.decoder.specs.declared.CountResult as count
+use Rattle.values.specs.Order.{defaultOrder}
 use Rattle.search.specs.Search.{SearchPromise}
 use Rattle.search.specs.declared.SearchResult.the-variants.{Found}
 use Rattle.search.specs.declared.Verdict.{Verdict}
@@ -41,10 +42,10 @@ module _ (f : List ℕ) (file-ok : fileRefusal f ≡ 0) where
 
   -- a window that a search reports is the one that the host reads
   window-read :
-      (letters letters′ result : List ℕ) (v : Verdict) → SearchPromise f letters (Found v) letters′ →
+      (letters letters′ result : List ℕ) (v : Verdict) → SearchPromise defaultOrder f letters (Found v) letters′ →
       fieldAt (withFields result (verdictFields v)) 0 ≡ 0 → v ≡ Least (windowRead (withFields result (verdictFields v)))
   window-read letters letters′ result (Least w) p e =
-      let h = found f letters (Least w) letters′ p .says in
+      let h = found defaultOrder f letters (Least w) letters′ p .says in
       let ns : List ℕ = 0 ∷ w .before ∷ w .after ∷ [] in
       let b = field-at result ns 1 (lit< tt) (omega (arith, h .before-small, high)) in
       let a = field-at result ns 2 (lit< tt) (omega (arith, h .after-small, high)) in
@@ -55,7 +56,7 @@ module _ (f : List ℕ) (file-ok : fileRefusal f ≡ 0) where
 
   window-found :
       (letters result letters′ result′ : List ℕ) → SearchHosted f letters result 0 letters′ result′ → fieldAt result′ 0 ≡ 0 →
-      SearchPromise f letters (Found (Least (windowRead result′))) letters′
+      SearchPromise defaultOrder f letters (Found (Least (windowRead result′))) letters′
   window-found letters result letters′ result′ found e =
       let v = search-found f letters result letters′ result′ found in
       rw (v .fields)
@@ -72,7 +73,7 @@ host-round-trip f s xs coded small before₁ result₁ r₁ after₁ result₁�
     let sent = first-read result₁ (laidRun (u .own)) (length xs) _ (ap laidRun ended) small (u .number) (u .fields) in
     let v = decode-handed result₃ long₃ f w (take (length xs) after₁) before₃ r₃ after₃ result₃′ (rw (sent .1) at decoded) in
     let t =
-    round-trip f s xs coded before₁ (u .own) after₁ room₁ (u .promised) before₂ w after₂
+    round-trip f s xs coded before₁ (u .own) after₁ room₁ (u .promised) defaultOrder before₂ w after₂
     (window-found f (coded .file) before₂ result₂ after₂ result₂′ found is-window) before₃ (v .own) after₃ room₃ (v .promised) in
     let few : FieldHolds (places (length xs) w) = omega arith in
     let got = first-read result₃ (laidCount (v .own)) (places (length xs) w) [] (ap laidCount (t .counted)) few (v .number) (v .fields) in

@@ -71,15 +71,15 @@ module _ (f : List ℕ) (s : ℕ) (xs : List ℕ) (coded : Coded f s xs) where
       (take-at (outs (machineOf f) s xs) (drop (length xs) before) (length xs) (length-outs (machineOf f) s xs))
 
 pub round-trip : LettersComeBack
-round-trip f s xs coded before₁ r₁ after₁ l p before₂ w after₂ q before₃ r₃ after₃ m d =
-    let o = outs (machineOf f) s xs in
-    let report = found f before₂ (Least w) after₂ q .says in
+round-trip f s xs coded before₁ r₁ after₁ l p o before₂ w after₂ q before₃ r₃ after₃ m d =
+    let os = outs (machineOf f) s xs in
+    let report = found o f before₂ (Least w) after₂ q .says in
     let limit = accepted f (coded .file) .entries .limits .states-high in
     let high : pairs (machineOf f .states) ≤ maxSide = rw (states-are f) (pairs-high (statesOf f) limit) in
-    let d′ : StringPromise f w o before₃ r₃ after₃ = rw (wrote f s xs coded before₁ after₁ r₁ l p) at d in
-    let long : length o ≡ length xs = length-outs (machineOf f) s xs in
-    let z : stringRefusalIn f w o (length before₃) true ≡ 0 =
-    string-ok f s xs coded w o before₃ (omega (arith, report .before-small)) (omega (arith, report .after-small)) (rw long m)
+    let d′ : StringPromise f w os before₃ r₃ after₃ = rw (wrote f s xs coded before₁ after₁ r₁ l p) at d in
+    let long : length os ≡ length xs = length-outs (machineOf f) s xs in
+    let z : stringRefusalIn f w os (length before₃) true ≡ 0 =
+    string-ok f s xs coded w os before₃ (omega (arith, report .before-small)) (omega (arith, report .after-small)) (rw long m)
     (outs-letters (machineOf f) (outputsOf f) (output-below f (accepted f (coded .file))) s xs) in
     record {
       ran = rw (not-refused f s xs coded before₁ l) at (p .result);

@@ -12,6 +12,7 @@ use Rattle.mealy.proofs.PairBytes.{valid-letters, valid-cut}
 use Rattle.coder.specs.File.{statesOf, inputsOf, machineOf, settingOf}
 use Rattle.values.specs.Pair.{pairOf}
 use Rattle.values.specs.declared.LoopedPair.{LoopedPair}
+use Rattle.values.specs.declared.Order.{Order}
 use Rattle.search.specs.Search.{wanted, SearchPromise}
 use Rattle.search.specs.declared.SearchResult.the-variants.{Found}
 use Rattle.search.specs.declared.Verdict.the-variants.{NoDecoder}
@@ -28,11 +29,12 @@ yes-only false e n = absurd (n refl)
 
 -- For a "no decoder", the check of that pair with the bytes of its letters, the first ones of the buffer, is not refused and says yes.
 pub search-checked :
-    (f before : List ℕ) (p : LoopedPair) (after : List ℕ) (r : CheckResult) → SearchPromise f before (Found (NoDecoder p)) after →
+    (o : Order) (f before : List ℕ) (p : LoopedPair) (after : List ℕ) (r : CheckResult) →
+    SearchPromise o f before (Found (NoDecoder p)) after →
     CheckPromise f (pairOf p (take (2 * letters (pairOf p after)) after)) r → r ≡ Checked true
 unfolding machineOf checkRefusal
-search-checked f before p after r s c =
-    let h = found f before (NoDecoder p) after s in
+search-checked o f before p after r s c =
+    let h = found o f before (NoDecoder p) after s in
     let v = h .says .valid in
     let n = 2 * letters (pairOf p after) in
     let long = length-take-le n after (v .held) in

@@ -9,7 +9,7 @@ use lib.Dec.{leb, eqb}
 use borrow.Author.Tests.{eqb-true, le-leb}
 use lib.Count.{leadingZeros}
 use Rattle.mealy.specs.Machine.{outs, end}
-use Rattle.mealy.specs.Order.{FewestLetters, Least as LeastOf}
+use Rattle.mealy.specs.Order.{Least as LeastOf}
 use Rattle.mealy.specs.LoopedPair.{LoopedPair, Valid}
 use Rattle.mealy.specs.Answer.{byteOf}
 use Rattle.mealy.specs.Index.{windowAt}
@@ -27,6 +27,9 @@ use Rattle.chains.specs.Chain.{isEntry, hasKey, over}
 use Rattle.running.specs.Run.{runRefusal, runRefusalIn}
 use Rattle.running.specs.declared.RunResult as run-result
 use Rattle.values.specs.Window.{window, size}
+use Rattle.values.specs.Order.{relationOf}
+use Rattle.values.specs.declared.Order.{Order}
+use Rattle.values.proofs.Orders.{is-order}
 use Rattle.values.specs.declared.Window.{Window}
 use Rattle.values.specs.declared.LoopedPair as values
 use Rattle.fitting.specs.Answer.{meaning, answerOf}
@@ -44,17 +47,16 @@ use Rattle.decoder.specs.declared.CountResult.the-variants.{Done}
 use Rattle.decoder.proofs.Accepting.{window-accepted}
 use Rattle.decoder.proofs.Writing.{written-bytes, written-unique}
 use Rattle.decoder.proofs.Decoding.{startsOf, file-right}
-use Rattle.search.specs.Search.{searchRefusal, wanted, order, Says, FoundVerdict, SearchPromise}
+use Rattle.search.specs.Search.{searchRefusal, wanted, Says, FoundVerdict, SearchPromise}
 use Rattle.search.specs.declared.Verdict.{Verdict}
 use Rattle.search.specs.declared.Verdict.the-variants.{Least, NoDecoder}
 use Rattle.search.specs.declared.SearchResult.{SearchResult}
 use Rattle.search.specs.declared.SearchResult.the-variants.{Found}
-use Rattle.search.proofs.Determined.{is-order}
 use Rattle.checker.specs.Check.{checkRefusal, CheckedRight}
 use Rattle.theorems.specs.Starred as claimed
 use Rattle.theorems.specs.Starred.{Claim, Case, Holds, AllHold, AllCases, starred}
 use Rattle.theorems.proofs.SearchChecked.{yes-only}
-use Rattle.theorems.proofs.Tests.{sameList, same-list, allWords, agree, worksTest, later, leastTest, least-test, closesTest, validTest, valid-test, differentTest, different-test}
+use Rattle.theorems.proofs.Tests.{sameList, same-list, allWords, agree, worksTest, noneBefore, leastTest, least-test, closesTest, validTest, valid-test, differentTest, different-test}
 
 -- ---- the test of a claim
 
@@ -86,7 +88,7 @@ entryByte f n b k = byteOf (meaning (decoded (coderOf f) (startsOf f) (windowAt 
 
 unfoldable test : List ℕ → Claim → Bool
 test f (claimed.counts n i o) = eqb (statesOf f) n && (eqb (inputsOf f) i && eqb (outputsOf f) o)
-test f (claimed.window b a) = leastTest (machineOf f) b a
+test f (claimed.window o b a) = leastTest (machineOf f) o b a
 test f (claimed.no-decoder p) = validTest (machineOf f) p && eqb (checkRefusal f p true) 0
 test f claimed.different-outputs = differentTest (machineOf f)
 test f (claimed.answer b a w v) =
@@ -101,43 +103,44 @@ test f (claimed.run s xs os e) =
 module _ (f : List ℕ) (z : fileRefusal f ≡ 0) where
   -- a search with room for any verdict is not refused
   searched :
-      (before : List ℕ) (r : SearchResult) (after : List ℕ) → wanted ≤ length before → SearchPromise f before r after →
-      FoundVerdict order (settingOf f) r before after
+      (o : Order) (before : List ℕ) (r : SearchResult) (after : List ℕ) → wanted ≤ length before → SearchPromise o f before r after →
+      FoundVerdict (relationOf o) (settingOf f) r before after
   unfolding searchRefusal
-  searched before r after l p =
+  searched o before r after l p =
       let e : searchRefusal f (leb wanted (length before)) ≡ 0 = rw (z, le-leb wanted (length before) l) in
       rw e at p
 
-  window-holds : (b a : ℕ) → LeastOf FewestLetters (settingOf f) b a → Holds f (claimed.window b a)
-  window-holds b a least before r after l p = go (h .verdict) (h .is) (h .says)
+  window-holds : (o : Order) (b a : ℕ) → LeastOf (relationOf o) (settingOf f) b a → Holds f (claimed.window o b a)
+  window-holds o b a least before r after l p = go (h .verdict) (h .is) (h .says)
     where
-      h : FoundVerdict order (settingOf f) r before after
-      h = searched before r after l p
+      h : FoundVerdict (relationOf o) (settingOf f) r before after
+      h = searched o before r after l p
 
       go :
-          (v : Verdict) → r ≡ Found v → Says order (settingOf f) v before after →
+          (v : Verdict) → r ≡ Found v → Says (relationOf o) (settingOf f) v before after →
           (r ≡ Found (Least (window b a))) × (after ≡ before)
       go (Least w) e s =
-          let u = least-unique is-order (settingOf f) (w .before) (w .after) b a (s .least) least in
+          let u = least-unique (is-order o) (settingOf f) (w .before) (w .after) b a (s .least) least in
           (e ∙ ap (λ (x : Window). Found (Least x)) (ap₂ window (u .0) (u .1)), s .stays)
       go (NoDecoder q) e s = absurd (s .none b a (least .works))
 
   no-decoder-holds :
       (p : LoopedPair) → Valid (settingOf f) p → checkRefusal f p true ≡ 0 → Holds f (claimed.no-decoder p)
   no-decoder-holds p v e = (
-    (λ before r after l s. let h = searched before r after l s in go r (h .verdict) (h .is) before after (h .says)),
+    (λ o before r after l s. let h = searched o before r after l s in go o r (h .verdict) (h .is) before after (h .says)),
     λ r c.
         let g : CheckedRight f p r = rw e at c in
         yes-only (g .answer) (g .is) (λ no. g .no′ no v),
   )
     where
       go :
-          (r : SearchResult) (u : Verdict) → r ≡ Found u → (before after : List ℕ) → Says order (settingOf f) u before after →
+          (o : Order) (r : SearchResult) (u : Verdict) → r ≡ Found u → (before after : List ℕ) →
+          Says (relationOf o) (settingOf f) u before after →
           (q : values.LoopedPair) × (r ≡ Found (NoDecoder q))
-      go r (Least w) e before after s =
+      go o r (Least w) e before after s =
           absurd
           (excludes (settingOf f) p v (any-closed (machineOf f) (total f (accepted f z))) (w .before) (w .after) (s .least .works))
-      go r (NoDecoder q) e before after s = (q, e)
+      go o r (NoDecoder q) e before after s = (q, e)
 
   answer-holds :
       (b a : ℕ) (received : List ℕ) (v : Answer) → windowRefusal f (window b a) received true ≡ 0 →
@@ -186,7 +189,7 @@ module _ (f : List ℕ) (z : fileRefusal f ≡ 0) where
       let t = both-true (eqb (statesOf f) n) (eqb (inputsOf f) i && eqb (outputsOf f) o) e in
       let u = both-true (eqb (inputsOf f) i) (eqb (outputsOf f) o) (t .1) in
       λ r p. rw (eqb-true (statesOf f) n (t .0), eqb-true (inputsOf f) i (u .0), eqb-true (outputsOf f) o (u .1)) at (rw z at p)
-  claim-holds (claimed.window b a) e = window-holds b a (least-test (machineOf f) b a e)
+  claim-holds (claimed.window o b a) e = window-holds o b a (least-test (machineOf f) o b a (total f (accepted f z)) e)
   claim-holds (claimed.no-decoder p) e =
       let t = both-true (validTest (machineOf f) p) (eqb (checkRefusal f p true) 0) e in
       no-decoder-holds p (valid-test (machineOf f) p (t .0)) (eqb-true _ _ (t .1))
@@ -231,7 +234,7 @@ cases-hold (c ∷ cs) e =
     (z, claims-hold (c .file) z (c .claims) (u .0), cases-hold cs (u .1))
 
 passed : testCases starred ≡ true
-unfolding test checkRefusal windowRefusal tableRefusal runRefusal sidesRefusal leastTest later worksTest agree allWords validTest closesTest differentTest allBelow fileRefusal entriesRefusal inRange within entryInRange machineOf entryOf coderOf table tableAt decoded pass added add contribution gather unionOf answerOf leadingZeros hasKey isEntry over windowAt
+unfolding test checkRefusal windowRefusal tableRefusal runRefusal sidesRefusal leastTest noneBefore worksTest agree allWords validTest closesTest differentTest allBelow fileRefusal entriesRefusal inRange within entryInRange machineOf entryOf coderOf table tableAt decoded pass added add contribution gather unionOf answerOf leadingZeros hasKey isEntry over windowAt
 passed = refl
 
 -- every starred case: its file is accepted, and all that is claimed of it holds

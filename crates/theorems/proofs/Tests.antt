@@ -9,14 +9,21 @@ use native.Mathlib.Decide.{decLt}
 use lib.ListN.{length, getD}
 use lib.Dec.{ltb, leb, eqb}
 use borrow.Author.Tests.{ltb-true, leb-true, eqb-true, eqb-false, eq-eqb, ne-eqb, lt-ltb, le-ltb, not-true}
-use Rattle.mealy.specs.Machine.{Machine, outs, end, Letters}
+use Rattle.mealy.specs.Machine.{Machine, outs, end, Letters, Total}
 use Rattle.mealy.specs.Setting.{anyState}
 use Rattle.mealy.specs.Window.{Works}
-use Rattle.mealy.specs.Order.{FewestLetters, Least}
+use Rattle.mealy.specs.Order.{Least}
+use Rattle.mealy.specs.Product.{Direction, back, forward, Settled, pairs}
 use Rattle.mealy.specs.LoopedPair.{LoopedPair, Run, first, second, letterAt, lettersFrom, mark, unlooped, letters, startOf, runInputs, Valid}
-use Rattle.mealy.proofs.Plain.{works↔same-letter}
+use Rattle.mealy.proofs.Plain.{works↔same-letter, any-start, any-bounded, any-closed}
+use Rattle.mealy.proofs.Settling.{settled-by}
+use Rattle.mealy.proofs.LeastWindows.{least-within}
 use Rattle.coder.specs.Refusal.{allBelow, lettersBelow}
 use Rattle.coder.proofs.Refusals.{true-false, both-true, all-at, letters-below}
+use Rattle.values.specs.Window.{window}
+use Rattle.values.specs.Order.{relationOf, noLater}
+use Rattle.values.specs.declared.Order.{Order}
+use Rattle.values.proofs.Orders.{is-order, no-later}
 
 -- ---- lists
 
@@ -116,39 +123,38 @@ module _ (M : Machine) (b a : ℕ) where
       (works↔same-letter M b a .0 f (p .0) (q .0) (x .xs) (y .xs) (p .1) (q .1) (x .below) (y .below) (x .long) (y .long)
       (same-list _ _ (d .0)))
 
--- ---- the least window: it works, and none that comes before it does
+-- ---- the least window in an order: it works, and none that comes before it does
 
-module _ (M : Machine) (b a : ℕ) where
-  -- of the windows of n + 1 letters, that with lookahead c does not come before b a, or does not work
-  unfoldable pub later : ℕ → ℕ → Bool
-  later n c = cond (ltb n (b + a)) (not (worksTest M (n - c) c)) (cond (ltb c a) (not (worksTest M (n - c) c)) true)
+module _ (M : Machine) (o : Order) (b a : ℕ) where
+  -- b a comes no later than the window b′ a′, or that does not work
+  unfoldable pub noneBefore : ℕ → ℕ → Bool
+  noneBefore b′ a′ = cond (noLater o (window b a) (window b′ a′)) true (not (worksTest M b′ a′))
 
+  -- tried up to N (N + 1) / 2 letters a side
   unfoldable pub leastTest : Bool
-  leastTest = worksTest M b a && allBelow (b + a + 1) (λ n. allBelow (n + 1) (later n))
+  leastTest =
+      worksTest M b a && allBelow (pairs (M .states) + 1) (λ b′. allBelow (pairs (M .states) + 1) (λ a′. noneBefore b′ a′))
 
-  pub least-test : leastTest ≡ true → Least FewestLetters (anyState M) b a
-  unfolding leastTest later
-  least-test e =
-      let z = both-true (worksTest M b a) (allBelow (b + a + 1) (λ n. allBelow (n + 1) (later n))) e in
-      record {
-        works = works-test M b a (z .0);
-        least = λ b′ a′ f.
-            let w : Works (anyState M) ((b′ + a′) - a′) a′ = let g : b′ ≡ (b′ + a′) - a′ = omega arith in rw g at f in
-            let t : (l : b′ + a′ < b + a + 1) → later (b′ + a′) a′ ≡ true = λ l.
-            let h = all-at (b + a + 1) (λ n. allBelow (n + 1) (later n)) (z .1) (b′ + a′) l in
-            all-at (b′ + a′ + 1) (later (b′ + a′)) h a′ (omega arith) in
-            record {
-              fewer = elim (decLt (b′ + a′) (b + a)) [
-                | yes l ↦ absurd (fails-test M (b′ + a′ - a′) a′ (not-true _ (rw (lt-ltb (b′ + a′) (b + a) l) at (t (omega arith)))) w)
-                | no l ↦ omega arith
-              ];
-              tie = λ g. elim (decLt a′ a) [
-                | yes l ↦ (let h = rw (le-ltb (b′ + a′) (b + a) (omega arith), lt-ltb a′ a l) at (t (omega arith)) in
-                    absurd (fails-test M (b′ + a′ - a′) a′ (not-true _ h) w))
-                | no l ↦ omega arith
-              ];
-            };
-      }
+  none-before : (b′ a′ : ℕ) → noneBefore b′ a′ ≡ true → Works (anyState M) b′ a′ → relationOf o b a b′ a′
+  unfolding noneBefore
+  none-before b′ a′ e f = go (noLater o (window b a) (window b′ a′)) refl e
+    where
+      go :
+          (t : Bool) → noLater o (window b a) (window b′ a′) ≡ t → cond t true (not (worksTest M b′ a′)) ≡ true →
+          relationOf o b a b′ a′
+      go true z h = no-later o (window b a) (window b′ a′) .0 z
+      go false z h = absurd (fails-test M b′ a′ (not-true _ h) f)
+
+  pub least-test : Total M → leastTest ≡ true → Least (relationOf o) (anyState M) b a
+  unfolding leastTest
+  least-test total e =
+      let n = pairs (M .states) in
+      let S = anyState M in
+      let settled : (d : Direction) → Settled S d n = λ d. settled-by S (any-start M) (any-bounded M) d n (omega arith) in
+      let z = both-true (worksTest M b a) (allBelow (n + 1) (λ b′. allBelow (n + 1) (λ a′. noneBefore b′ a′))) e in
+      least-within (is-order o) S (any-closed M total) n (settled forward) n (settled back) b a (works-test M b a (z .0)) (λ b′ a′ l m f.
+      let r = all-at (n + 1) (λ b′. allBelow (n + 1) (λ a′. noneBefore b′ a′)) (z .1) b′ (omega arith) in
+      none-before b′ a′ (all-at (n + 1) (λ a′. noneBefore b′ a′) r a′ (omega arith)) f)
 
 -- ---- looped pairs
 

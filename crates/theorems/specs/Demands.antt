@@ -21,8 +21,11 @@ use Rattle.running.specs.Run.{RunPromise}
 use Rattle.running.specs.declared.RunResult.{RunResult}
 use Rattle.running.specs.declared.RunResult as run-result
 use Rattle.values.specs.Window.{size}
+use Rattle.values.specs.Order.{relationOf, defaultOrder}
 use Rattle.values.specs.Pair.{pairOf}
 use Rattle.values.specs.declared.Window.{Window}
+use Rattle.values.specs.declared.Order.{Order}
+use Rattle.values.specs.declared.Order.the-variants.{LeastLookahead, FewestLetters}
 use Rattle.values.specs.declared.LoopedPair.{LoopedPair}
 use Rattle.fitting.specs.Answer.{meaning}
 use Rattle.fitting.specs.declared.Answer.{Answer}
@@ -35,7 +38,7 @@ use Rattle.decoder.specs.declared.WindowResult.{WindowResult}
 use Rattle.decoder.specs.declared.WindowResult as window-result
 use Rattle.decoder.specs.declared.CountResult.{CountResult}
 use Rattle.decoder.specs.declared.CountResult as count-result
-use Rattle.search.specs.Search.{order, IsNoDecoder, FoundVerdict, SearchPromise}
+use Rattle.search.specs.Search.{IsNoDecoder, FoundVerdict, SearchPromise}
 use Rattle.search.specs.declared.Verdict.{Verdict}
 use Rattle.search.specs.declared.Verdict.the-variants.{Least, NoDecoder}
 use Rattle.search.specs.declared.SearchResult.{SearchResult}
@@ -86,9 +89,9 @@ pub record Demand1 : Type 0 where
       ((r ≡ count-result.the-variants.Done (tableSize (outputsOf f) w)) ×
       Written (EntryOf f w) (tableSize (outputsOf f) w) before after)
   pub search :
-      (f before : List ℕ) (r : SearchResult) (after : List ℕ) → SearchPromise f before r after →
+      (o : Order) (f before : List ℕ) (r : SearchResult) (after : List ℕ) → SearchPromise o f before r after →
       Judged (givenSearch f before []) (λ k. (r ≡ search-result.the-variants.Refused k) × (after ≡ before))
-      (FoundVerdict order (settingOf f) r before after)
+      (FoundVerdict (relationOf o) (settingOf f) r before after)
   pub check :
       (f : List ℕ) (p : mealy.LoopedPair) (r : CheckResult) → CheckPromise f p r →
       Judged (givenCheck f p []) (λ k. r ≡ check-result.the-variants.Refused k) (CheckedRight f p r)
@@ -164,27 +167,33 @@ pub record Demand2 : Type 0 where
 
 -- ---- demand 3: the least window of all, or none of any size, with a looped pair
 
--- What is demanded of a verdict on a file, the letters of a looped pair lying in the buffer.
-pub record Demanded (f : List ℕ) (v : Verdict) (buffer : List ℕ) : Type 0 where
+-- Third sentence, its words after the semicolon, of a reported window w beside another, b a, that works. They are those of the archive's
+-- order: the other has at least as many letters and, where it has equally many, at least as many of lookahead. In the other order (document
+-- 02, 1/13) w has no more letters of lookahead than the other and, where it has as many, no more letters before.
+abbrev pub NoneBefore : Order → Window → ℕ → ℕ → Type 0
+NoneBefore FewestLetters w b a = (size w ≤ b + 1 + a) × (size w ≡ b + 1 + a → w .after ≤ a)
+NoneBefore LeastLookahead w b a = (w .after ≤ a) × (w .after ≡ a → w .before ≤ b)
+
+-- What is demanded of the verdict of a search in the order o on a file, the letters of a looped pair lying in the buffer.
+pub record Demanded (o : Order) (f : List ℕ) (v : Verdict) (buffer : List ℕ) : Type 0 where
   -- first sentence
   pub exactly : IsNoDecoder v ↔ ((b a : ℕ) → Works (settingOf f) b a → ⊥)
   -- second sentence: the pair is valid, and its two runs are as demanded for every k and every m
   pub valid : (p : LoopedPair) → v ≡ NoDecoder p → Valid (settingOf f) (pairOf p buffer)
   pub turned : (p : LoopedPair) → v ≡ NoDecoder p → (k m : ℕ) → TurnedRuns (settingOf f) (pairOf p buffer) k m
-  -- third sentence: the window works; no other that works has fewer letters, or as many and less lookahead
+  -- third sentence: the window works, and no other that works comes before it
   pub works : (w : Window) → v ≡ Least w → Works (settingOf f) (w .before) (w .after)
-  pub fewest : (w : Window) → v ≡ Least w → (b a : ℕ) → Works (settingOf f) b a → w .before + 1 + w .after ≤ b + 1 + a
-  pub less-lookahead :
-      (w : Window) → v ≡ Least w → (b a : ℕ) → Works (settingOf f) b a → w .before + 1 + w .after ≡ b + 1 + a → w .after ≤ a
+  pub none-before : (w : Window) → v ≡ Least w → (b a : ℕ) → Works (settingOf f) b a → NoneBefore o w b a
 
 pub record Demand3 : Type 0 where
+  -- the search in a named order; the search that names none is the one in the default order
   pub search :
-      (f before : List ℕ) (v : Verdict) (after : List ℕ) → SearchPromise f before (search-result.the-variants.Found v) after →
-      Demanded f v after
-  -- a search from C that returns 0 has such a verdict in the fields of its result
+      (o : Order) (f before : List ℕ) (v : Verdict) (after : List ℕ) →
+      SearchPromise o f before (search-result.the-variants.Found v) after → Demanded o f v after
+  -- a search from C that returns 0 has such a verdict, in the default order, in the fields of its result
   pub search-from-C :
       (f before result after result′ : List ℕ) → SearchHosted f before result 0 after result′ →
-      (v : Verdict) × (result′ ≡ withFields result (verdictFields v)) × Demanded f v after
+      (v : Verdict) × (result′ ≡ withFields result (verdictFields v)) × Demanded defaultOrder f v after
 
 -- ---- the calls from C
 
@@ -198,7 +207,7 @@ pub record FromC : Type 0 where
   pub search :
       (f before result : List ℕ) (r : ℕ) (after result′ : List ℕ) → resultBytes ≤ length result →
       SearchHosted f before result r after result′ →
-      Handed (λ own. SearchPromise f before own after) laidSearch result r result′
+      Handed (λ own. SearchPromise defaultOrder f before own after) laidSearch result r result′
   pub decode :
       (f : List ℕ) (w : Window) (received before result : List ℕ) (r : ℕ) (after result′ : List ℕ) → resultBytes ≤ length result →
       DecodeHosted f w received before result r after result′ →

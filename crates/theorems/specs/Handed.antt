@@ -11,6 +11,7 @@ use Rattle.decoder.specs.declared.WindowResult.{WindowResult}
 use Rattle.decoder.specs.declared.WindowResult as window
 use Rattle.decoder.specs.declared.CountResult.{CountResult}
 use Rattle.decoder.specs.declared.CountResult as count
+use Rattle.values.specs.Order.{defaultOrder}
 use Rattle.search.specs.Search.{SearchPromise}
 use Rattle.search.specs.declared.Verdict.{Verdict}
 use Rattle.search.specs.declared.SearchResult.{SearchResult}
@@ -58,8 +59,9 @@ pub record Handed {R : Type 0} (Promise : R → Type 0) (laid : R → Laid) (res
   pub number : r ≡ laid own .returned
   pub fields : result′ ≡ withFields result (laid own .fields)
 
--- A search from C that returned 0: its verdict is one that the library's own search promises, and lies in the fields.
+-- A search from C that returned 0: its verdict is one that the library's own search in the default order promises, and lies in the
+-- fields.
 pub record FoundFromC (f before result after result′ : List ℕ) : Type 0 where
   pub verdict : Verdict
-  pub promised : SearchPromise f before (search.the-variants.Found verdict) after
+  pub promised : SearchPromise defaultOrder f before (search.the-variants.Found verdict) after
   pub fields : result′ ≡ withFields result (verdictFields verdict)

@@ -10,6 +10,7 @@ use Rattle.running.specs.declared.RunResult.{RunResult}
 use Rattle.running.specs.declared.RunResult as run
 use Rattle.values.specs.Window.{window}
 use Rattle.values.specs.declared.Window.{Window}
+use Rattle.values.specs.declared.Order.{Order}
 use Rattle.search.specs.Search.{SearchPromise}
 use Rattle.search.specs.declared.Verdict.the-variants.{Least}
 use Rattle.search.specs.declared.SearchResult.the-variants.{Found}
@@ -36,13 +37,13 @@ pub record RoundTrip (f : List ℕ) (s : ℕ) (xs : List ℕ) (w : Window) (r₁
   pub counted : r₃ ≡ Done (places (length xs) w)
   pub back : Back xs w decoded
 
--- For each outcome that the three calls promise, with room in the lent buffers: the run writes to after₁, the search reports w, and the
--- decoder, given w and the letters that the run wrote, writes to after₃.
+-- For each outcome that the three calls promise, with room in the lent buffers: the run writes to after₁, the search, in whatever order,
+-- reports w, and the decoder, given w and the letters that the run wrote, writes to after₃.
 abbrev pub LettersComeBack : Type 0
 LettersComeBack =
     (f : List ℕ) (s : ℕ) (xs : List ℕ) → Coded f s xs →
     (before₁ : List ℕ) (r₁ : RunResult) (after₁ : List ℕ) → length xs ≤ length before₁ → RunPromise f s xs before₁ r₁ after₁ →
-    (before₂ : List ℕ) (w : Window) (after₂ : List ℕ) → SearchPromise f before₂ (Found (Least w)) after₂ →
+    (o : Order) (before₂ : List ℕ) (w : Window) (after₂ : List ℕ) → SearchPromise o f before₂ (Found (Least w)) after₂ →
     (before₃ : List ℕ) (r₃ : CountResult) (after₃ : List ℕ) → places (length xs) w ≤ length before₃ →
     StringPromise f w (take (length xs) after₁) before₃ r₃ after₃ →
     RoundTrip f s xs w r₁ r₃ after₃

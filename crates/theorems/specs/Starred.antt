@@ -1,5 +1,6 @@
--- The starred cases of document 01 ("Example coders"): one table of coder files and what is claimed of each. A claim on a call says that
--- every outcome that the call promises on this file is the one named; of a "no decoder" the pair is open.
+-- The starred cases of document 01 ("Example coders"): one table of coder files and what is claimed of each; the windows in both orders,
+-- with the one of coder G that document 02, 1/13, names. A claim on a call says that every outcome that the call promises on this file is
+-- the one named; of a "no decoder" the pair is open.
 use Prim.Native.Nat.{ℕ, _≤_, _<_}
 use mathlib.Core.Path.{_≡_}
 use mathlib.Core.Logic.{_≢_}
@@ -14,6 +15,9 @@ use Rattle.running.specs.Run.{RunPromise}
 use Rattle.running.specs.declared.RunResult.{RunResult}
 use Rattle.running.specs.declared.RunResult as run-result
 use Rattle.values.specs.Window as values
+use Rattle.values.specs.Order.{defaultOrder}
+use Rattle.values.specs.declared.Order.{Order}
+use Rattle.values.specs.declared.Order.the-variants.{FewestLetters}
 use Rattle.values.specs.declared.LoopedPair.{LoopedPair}
 use Rattle.fitting.specs.declared.Answer.{Answer}
 use Rattle.fitting.specs.declared.Answer.the-variants.{Letter, None, Several}
@@ -34,9 +38,9 @@ use Rattle.checker.specs.declared.CheckResult.the-variants.{Checked}
 pub data Claim : Type 0 where
   -- the reader gives these counts
   counts : ℕ → ℕ → ℕ → Claim
-  -- the search reports this window
-  window : ℕ → ℕ → Claim
-  -- the search says "no decoder", and the checker says yes to this pair
+  -- the search in this order reports this window
+  window : Order → ℕ → ℕ → Claim
+  -- the search in any order says "no decoder", and the checker says yes to this pair
   no-decoder : mealy.LoopedPair → Claim
   -- from equal states different letters give different outputs
   different-outputs : Claim
@@ -50,11 +54,11 @@ pub data Claim : Type 0 where
 -- What each claim says of a file; of the calls that write, for lent buffers that are long enough.
 abbrev pub Holds : List ℕ → Claim → Type 0
 Holds f (counts n i o) = (r : Header) → r ≡ headerOf f → r ≡ Counts n i o
-Holds f (window b a) =
-    (before : List ℕ) (r : SearchResult) (after : List ℕ) → wanted ≤ length before → SearchPromise f before r after →
+Holds f (window o b a) =
+    (before : List ℕ) (r : SearchResult) (after : List ℕ) → wanted ≤ length before → SearchPromise o f before r after →
     (r ≡ Found (Least (values.window b a))) × (after ≡ before)
 Holds f (no-decoder p) =
-    ((before : List ℕ) (r : SearchResult) (after : List ℕ) → wanted ≤ length before → SearchPromise f before r after →
+    ((o : Order) (before : List ℕ) (r : SearchResult) (after : List ℕ) → wanted ≤ length before → SearchPromise o f before r after →
     (q : LoopedPair) × (r ≡ Found (NoDecoder q))) ×
     ((r : CheckResult) → CheckPromise f p r → r ≡ Checked true)
 Holds f different-outputs =
@@ -80,16 +84,16 @@ starred =
     -- A, running parity
     record {
       file = 1 ∷ 0 ∷ 11 ∷ 2 ∷ 2 ∷ 2 ∷ 0 ∷ 0 ∷ 1 ∷ 1 ∷ 1 ∷ 1 ∷ 0 ∷ 0 ∷ [];
-      claims = counts 2 2 2 ∷ window 1 0 ∷ table 1 0 (0 ∷ 1 ∷ 1 ∷ 0 ∷ []) ∷ run 0 (1 ∷ 1 ∷ 0 ∷ []) (1 ∷ 0 ∷ 0 ∷ []) 0 ∷ [];
+      claims = counts 2 2 2 ∷ window defaultOrder 1 0 ∷ window FewestLetters 1 0 ∷ table 1 0 (0 ∷ 1 ∷ 1 ∷ 0 ∷ []) ∷ run 0 (1 ∷ 1 ∷ 0 ∷ []) (1 ∷ 0 ∷ 0 ∷ []) 0 ∷ [];
     } ∷
     -- B, one state
-    record { file = 1 ∷ 0 ∷ 7 ∷ 1 ∷ 2 ∷ 2 ∷ 0 ∷ 0 ∷ 0 ∷ 1 ∷ []; claims = window 0 0 ∷ [] } ∷
+    record { file = 1 ∷ 0 ∷ 7 ∷ 1 ∷ 2 ∷ 2 ∷ 0 ∷ 0 ∷ 0 ∷ 1 ∷ []; claims = window defaultOrder 0 0 ∷ window FewestLetters 0 0 ∷ [] } ∷
     -- C, one state, one output letter
     record { file = 1 ∷ 0 ∷ 7 ∷ 1 ∷ 2 ∷ 1 ∷ 0 ∷ 0 ∷ 0 ∷ 0 ∷ []; claims = no-decoder (pair 0 0 (0 ∷ 0 ∷ 0 ∷ 1 ∷ 0 ∷ 0 ∷ [])) ∷ [] } ∷
     -- D, delay
     record {
       file = 1 ∷ 0 ∷ 11 ∷ 2 ∷ 2 ∷ 2 ∷ 0 ∷ 0 ∷ 1 ∷ 0 ∷ 0 ∷ 1 ∷ 1 ∷ 1 ∷ [];
-      claims = window 0 1 ∷ table 0 1 (0 ∷ 1 ∷ 0 ∷ 1 ∷ []) ∷ [];
+      claims = window defaultOrder 0 1 ∷ window FewestLetters 0 1 ∷ table 0 1 (0 ∷ 1 ∷ 0 ∷ 1 ∷ []) ∷ [];
     } ∷
     -- E, change detector
     record {
@@ -99,7 +103,7 @@ starred =
     -- G
     record {
       file = 1 ∷ 0 ∷ 19 ∷ 4 ∷ 2 ∷ 6 ∷ 1 ∷ 4 ∷ 1 ∷ 5 ∷ 2 ∷ 0 ∷ 3 ∷ 0 ∷ 2 ∷ 0 ∷ 2 ∷ 1 ∷ 3 ∷ 2 ∷ 3 ∷ 3 ∷ [];
-      claims = answer 0 1 (0 ∷ 0 ∷ []) (Letter 0) ∷ answer 0 1 (0 ∷ 2 ∷ []) (Letter 1) ∷ answer 0 1 (1 ∷ 2 ∷ []) None ∷ answer 0 0 (0 ∷ []) Several ∷ [];
+      claims = window defaultOrder 2 0 ∷ window FewestLetters 0 1 ∷ answer 0 1 (0 ∷ 0 ∷ []) (Letter 0) ∷ answer 0 1 (0 ∷ 2 ∷ []) (Letter 1) ∷ answer 0 1 (1 ∷ 2 ∷ []) None ∷ answer 0 0 (0 ∷ []) Several ∷ [];
     } ∷
     -- H
     record { file = 1 ∷ 0 ∷ 11 ∷ 2 ∷ 2 ∷ 2 ∷ 0 ∷ 0 ∷ 0 ∷ 1 ∷ 1 ∷ 0 ∷ 1 ∷ 0 ∷ []; claims = no-decoder (pair 1 1 (0 ∷ 0 ∷ 0 ∷ 1 ∷ 0 ∷ 0 ∷ [])) ∷ [] } ∷

@@ -1,3 +1,4 @@
--- Windows and looped pairs of the calls as those of the theory.
+-- Windows, orders and looped pairs of the calls as those of the theory.
 pub mod Window
+pub mod Order
 pub mod Pair

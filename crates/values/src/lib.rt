@@ -1,9 +1,17 @@
-// What the calls are given and give: a window, a looped pair.
+// What the calls are given and give: a window, an order of windows, a looped pair.
+pub mod inner; // inner.rt: the order of a call that names none, and the comparison of two windows; no public calls
 
 // A window: how many letters before the present one and after it.
 pub struct Window {
     pub before: usize,
     pub after: usize,
+}
+
+// The order in which a search reports the least window that works: least letters of lookahead and, among those, least letters before;
+// or fewest letters in all and, among those, least letters of lookahead.
+pub enum Order {
+    LeastLookahead,
+    FewestLetters,
 }
 
 // Starts and lengths of a looped pair; its letters lie in a lent buffer.

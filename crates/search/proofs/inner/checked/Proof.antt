@@ -4,7 +4,7 @@ use borrow.Author.Tests.{leb-true}
 use Rattle.coder.proofs.Accepted.{Accepted, accepted}
 use Rattle.setting.specs.Words.{WordsOf}
 use Rattle.setting.proofs.Same.{coder-sound, file-closed, same-setting, words-closed}
-use Rattle.search.specs.Search.{order}
+use Rattle.values.specs.Order.{relationOf}
 use Rattle.search.proofs.Files.{says-same, search-accepted}
 use borrow.Author.Needs.{needs}
 use Rattle.search.proofs.inner.checked.Statement.{statement}
@@ -54,7 +54,7 @@ returns c =
     let d = v .before .before .before in
     let f = coder d in
     let a = file-accepted (start f) in
-    says-same order (same-setting (f .from-checked .ensures) a (words d)) (file-closed (f .from-checked .ensures) a) (v .verdict .result)
+    says-same (relationOf (start f .args .order)) (same-setting (f .from-checked .ensures) a (words d)) (file-closed (f .from-checked .ensures) a) (v .verdict .result)
     _ _ (v .verdict .ensures)
 
 pub checked-spec : {M : Type 1} → statement M

@@ -1,8 +1,8 @@
 -- `verdict` meets its contract: a window where no conflicting edge is endless on both sides, a looped pair where one is.
 use Rattle.chains.proofs.Entries.{output-keys}
 use Rattle.search.proofs.Verdicts.{choose-asked, window-says, find-from, pair-says}
-use Rattle.search.specs.Search.{order}
-use Rattle.search.proofs.Determined.{is-order}
+use Rattle.values.specs.Order.{relationOf}
+use Rattle.values.proofs.Orders.{is-order}
 use borrow.Author.Needs.{needs}
 use native.Mathlib.Omega.{arith}
 use Rattle.search.proofs.inner.verdict.Statement.{statement}
@@ -45,7 +45,7 @@ returns c =
     let d = c .before .before .before .before .before in
     let p = start d .pre in
     window-says _ _ _ (p .0) (p .1) (backed d .back .ensures) (forwarded d .forward .ensures) (d .count-edges .ensures) (omega arith)
-    (c .before .before .needs .result) (c .before .before .needs .ensures) is-order _ _ (c .choose .ensures)
+    (c .before .before .needs .result) (c .before .before .needs .ensures) (is-order (start d .args .order)) _ _ (c .choose .ensures)
 
 find-requires : tie.Need-find-requires
 find-requires c κs =
@@ -69,7 +69,7 @@ returns-2 c =
     let forward = forwarded d .forward .ensures in
     let found = d .count-edges .ensures in
     let from = find-from _ _ _ (p .0) (p .1) back forward found (omega arith) in
-    pair-says _ _ _ (p .0) (p .1) back forward found order _ _ _ (c .before .before .find .ensures _ _ from)
+    pair-says _ _ _ (p .0) (p .1) back forward found (relationOf (start d .args .order)) _ _ _ (c .before .before .find .ensures _ _ from)
 
 pub verdict-spec : {M : Type 1} → statement M
 verdict-spec =

@@ -1,0 +1,2 @@
+-- The laws of the orders.
+pub mod Orders
