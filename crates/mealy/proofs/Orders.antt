@@ -6,6 +6,20 @@ use native.Mathlib.Omega.{arith}
 use native.Mathlib.Decide.{decLe}
 use Rattle.mealy.specs.Order.{IsOrder, InTurn, LeastLookahead, FewestLetters}
 
+-- ---- which of two windows comes first
+
+-- two letters more before are better than one of lookahead: coder G
+pub more-before : LeastLookahead 2 0 0 1
+more-before = record { first = omega arith; second = λ e. absurd (omega arith) }
+
+-- of as much lookahead the one with fewer letters before
+pub fewer-before : LeastLookahead 1 0 2 0
+fewer-before = record { first = omega arith; second = λ e. omega arith }
+
+-- of two windows of two letters the one with less lookahead: coder F
+pub less-lookahead : FewestLetters 1 0 0 1
+less-lookahead = record { first = omega arith; second = λ e. omega arith }
+
 -- ---- two numbers after one another
 
 turn-transitive : (x y x′ y′ x″ y″ : ℕ) → InTurn x y x′ y′ → InTurn x′ y′ x″ y″ → InTurn x y x″ y″
@@ -53,17 +67,3 @@ fewest-letters = record {
   antisymmetric = λ b a b′ a′ p q. let e = turn-antisymmetric (b + 1 + a) a (b′ + 1 + a′) a′ p q in (omega (arith, e .0, e .1), e .1);
   total = λ b a b′ a′. turn-total (b + 1 + a) a (b′ + 1 + a′) a′;
 }
-
--- ---- which of two windows comes first
-
--- two letters more before are better than one of lookahead: coder G
-pub more-before : LeastLookahead 2 0 0 1
-more-before = record { first = omega arith; second = λ e. absurd (omega arith) }
-
--- of as much lookahead the one with fewer letters before
-pub fewer-before : LeastLookahead 1 0 2 0
-fewer-before = record { first = omega arith; second = λ e. omega arith }
-
--- of two windows of two letters the one with less lookahead: coder F
-pub less-lookahead : FewestLetters 1 0 0 1
-less-lookahead = record { first = omega arith; second = λ e. omega arith }
