@@ -42,7 +42,7 @@ examples: lib
 # Written anew each time: PREFIX may have changed.
 $(PC_FILE):
 	mkdir -p $(@D)
-	printf 'prefix=%s\nName: lowhenita\nDescription: line coders, their least windows and decoders, proved\nVersion: %s\nCflags: -I$${prefix}/include\nLibs: -L$${prefix}/lib -llowhenita\n' \
+	printf 'prefix=%s\nName: lowhenita\nDescription: line coders, their windows and decoders, proved\nVersion: %s\nCflags: -I$${prefix}/include\nLibs: -L$${prefix}/lib -llowhenita\n' \
 	  '$(PREFIX)' '$(VERSION)' > $@
 
 install: lib report $(PC_FILE)

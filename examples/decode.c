@@ -1,4 +1,4 @@
-/* A host in C99 or C++: finds the window of a coder and decodes with it.
+/* A host in C99 or C++: finds the window of a coder, the one with least lookahead, and decodes with it.
 
    decode CODER-FILE [LETTER ...]
        runs the coder from state 0 on the letters, decodes what it sends and says whether the letters came back; without letters, a few

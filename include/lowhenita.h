@@ -31,7 +31,7 @@ extern "C" {
 #endif
 
 /* The version of this header and of the library; make and pkg-config take it from here. */
-#define LOWHENITA_VERSION "1.0"
+#define LOWHENITA_VERSION "1.1"
 
 /* Limits of a coder: states, input letters, output letters; the bytes of its file. */
 #define LOWHENITA_MAX_STATES 16
@@ -133,8 +133,8 @@ size_t lowhenita_run(const uint8_t *file, size_t file_len,
                      uint8_t *result, size_t result_len);
 
 /*
- * Finds the window with fewest letters among all that work, and of those the one with least lookahead; or, where no window works,
- * a looped pair that shows it.
+ * Finds of all windows that work the least in the order of least lookahead: the one with fewest letters after the present one and, of
+ * several with as many, with fewest before it. Or, where no window works, a looped pair that shows it.
  * Field 0: LOWHENITA_WINDOW; then field 1: letters before the present one, field 2: letters after it; `letters` stays as it was.
  * Field 0: LOWHENITA_LOOPED_PAIR; then fields 1 to 6: the start states s and t, the lengths of back loop, lead-in, lead-out and
  * forward loop; the pair's letters stand at the front of `letters`, two bytes each (first run, second run), the differing letter

@@ -7,6 +7,7 @@
 
 static const uint8_t a[] = {1, 0, 11, 2, 2, 2, 0, 0, 1, 1, 1, 1, 0, 0};
 static const uint8_t c[] = {1, 0, 7, 1, 2, 1, 0, 0, 0, 0};
+static const uint8_t g[] = {1, 0, 19, 4, 2, 6, 1, 4, 1, 5, 2, 0, 3, 0, 2, 0, 2, 1, 3, 2, 3, 3};
 static uint8_t result[64], other[64], letters[1026], out[4];
 static unsigned passed, failed;
 
@@ -35,6 +36,7 @@ static void run(void)
 
 static void search(void)
 {
+    static uint8_t shown[36];
     size_t pair[6], n = 1, k;
 
     memset(letters, 9, sizeof letters);
@@ -45,6 +47,13 @@ static void search(void)
     for (k = 0; k < sizeof letters && letters[k] == 9; k++)
         ;
     HOLDS(k == sizeof letters);
+
+    HOLDS(lowhenita_search(g, sizeof g, letters, 1026, result, 64) == 0);
+    HOLDS(lowhenita_field(result, 0) == LOWHENITA_WINDOW);
+    HOLDS(lowhenita_field(result, 1) == 2);
+    HOLDS(lowhenita_field(result, 2) == 0);
+    HOLDS(lowhenita_table(g, sizeof g, 0, 1, shown, sizeof shown, other, 64) == 0);
+    HOLDS(memchr(shown, LOWHENITA_SEVERAL, sizeof shown) == NULL);
 
     HOLDS(lowhenita_search(c, sizeof c, letters, 1026, result, 64) == 0);
     HOLDS(lowhenita_field(result, 0) == LOWHENITA_LOOPED_PAIR);
