@@ -377,7 +377,7 @@ size_t plain_search(const uint8_t *file, size_t file_len, uint8_t *letters, size
 {
     coder c;
     uint8_t back[16][16], forward[16][16], source[256], worst[256];
-    size_t x, y, i, j, s, t, a, best, r = read_coder(file, file_len, &c);
+    size_t x, y, i, j, s, t, a, r = read_coder(file, file_len, &c);
 
     if (r)
         return r;
@@ -411,12 +411,10 @@ size_t plain_search(const uint8_t *file, size_t file_len, uint8_t *letters, size
             }
     /* with lookahead a, an edge stands in the way up to its back depth while a is below its forward depth */
     v->is_pair = 0;
-    best = (size_t)-1;
     for (a = 255, r = 0; a-- > 0;) {
         if (r < worst[a + 1])
             r = worst[a + 1];
-        if (r < ENDLESS && a <= 136 && r + a <= best) {
-            best = r + a;
+        if (r < ENDLESS && a <= 136) { /* the last one has least lookahead */
             v->before = r;
             v->after = a;
         }

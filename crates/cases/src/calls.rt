@@ -98,7 +98,7 @@ fn counted(r: decoder::CountResult) -> Got {
     }
 }
 
-// The search that a line asks for: in the order that it names, or in none.
+// The search that a line asks for: in the order that it names, or in the default order.
 fn searched(file: &[u8], asked: usize, lent: &mut [u8]) -> search::SearchResult {
     if asked == asking::LEAST_LOOKAHEAD {
         return search::search_in_order(file, Order::LeastLookahead, lent);

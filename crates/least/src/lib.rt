@@ -1,2 +1,2 @@
-// The least window that works, from the depths of the product machine.
+// The least window that works, in an order, from the depths of the product machine.
 pub mod inner; // inner.rt: what the crates above call; no public calls

@@ -21,11 +21,12 @@ pub record InTurn (x y x′ y′ : ℕ) : Type 0 where
   pub first : x ≤ x′
   pub second : x ≡ x′ → y ≤ y′
 
--- The order that document 02, 1/13, makes the default: least lookahead and, of as much, fewest letters before.
+-- The order of least lookahead, the default of document 02, 1/13: less lookahead comes first and, of as much, fewer letters before.
 abbrev pub LeastLookahead : Relation
 LeastLookahead b a b′ a′ = InTurn a b a′ b′
 
--- The order of demand 3's last sentence, the archive's: fewest letters and, of equally many, least lookahead.
+-- The order of fewest letters, that of demand 3's last sentence as it stands: fewer letters in all come first and, of as many, less
+-- lookahead.
 abbrev pub FewestLetters : Relation
 FewestLetters b a b′ a′ = InTurn (b + 1 + a) a (b′ + 1 + a′) a′
 

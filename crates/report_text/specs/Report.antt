@@ -48,7 +48,8 @@ noDecoderLine = 110 ∷ 111 ∷ 32 ∷ 100 ∷ 101 ∷ 99 ∷ 111 ∷ 100 ∷ 10
 
 -- ---- the report
 
--- Which second line is right: that of the least window that works, in the default order (document 02, 1/13), or that of no decoder where no window works.
+-- Which second line is right: that of the least window that works, in the default order (document 02, 1/13), or that of no decoder where
+-- no window works.
 pub data SecondLine (S : Setting) : List ℕ → Type 0 where
   a-window : (b a : ℕ) → Least (relationOf defaultOrder) S b a → SecondLine S (windowLine b a)
   no-window : ((b a : ℕ) → Works S b a → ⊥) → SecondLine S noDecoderLine

@@ -73,7 +73,7 @@ no-decoder-any-order o o′ f before before′ v v′ after after′ h h′ =
     let e′ = no-decoder-exactly o′ f before′ v′ after′ h′ in
     (λ n. e′ .1 (e .0 n), λ n. e .1 (e′ .0 n))
 
--- what is promised of a search that reports no window does not hang on the order
+-- what is promised of a looped pair does not depend on the order
 pub pair-any-order :
     (o o′ : Order) (f before : List ℕ) (p : LoopedPair) (after : List ℕ) → SearchPromise o f before (Found (NoDecoder p)) after →
     SearchPromise o′ f before (Found (NoDecoder p)) after
@@ -112,7 +112,8 @@ verdict-determined order S before (Least w) (NoDecoder p′) after after′ p q 
 verdict-determined order S before (NoDecoder p₀) (Least w′) after after′ p q = p .none (w′ .before) (w′ .after) (q .least .works)
 verdict-determined order S before (NoDecoder p₀) (NoDecoder p′) after after′ p q = (p, q)
 
--- Two outcomes that meet the promise for the same arguments, the order among them, are equal but for which looped pair is given, and its bytes.
+-- Two outcomes that meet the promise for the same arguments, the order among them, are equal but for which looped pair is given, and
+-- its bytes.
 pub search-determined :
     (o : Order) (f before : List ℕ) (r r′ : SearchResult) (after after′ : List ℕ) → SearchPromise o f before r after →
     SearchPromise o f before r′ after′ → SameButPair (settingOf f) before r after r′ after′

@@ -5,7 +5,7 @@ use values::Order;
 
 pub mod inner; // inner.rt: what the crates above call on checked bytes; no public calls
 
-// The least window that works, or a looped pair that excludes every window; the pair's letters lie in the lent buffer.
+// The least window that works, in the order of the search, or a looped pair that excludes every window; the pair's letters lie in the lent buffer.
 pub enum Verdict {
     Least(values::Window),
     NoDecoder(values::LoopedPair),

@@ -5,10 +5,9 @@ use mathlib.Core.Logic.{_≢_}
 use mathlib.Core.List.{List, [], _∷_}
 use Prim.Native.Nat.{ℕ, zero, suc, _+_, _-_, _*_, _<_}
 use native.Mathlib.Omega.{arith}
-use native.Mathlib.Decide.{decLt}
 use lib.ListN.{length, getD}
 use lib.Dec.{ltb, leb, eqb}
-use borrow.Author.Tests.{ltb-true, leb-true, eqb-true, eqb-false, eq-eqb, ne-eqb, lt-ltb, le-ltb, not-true}
+use borrow.Author.Tests.{ltb-true, leb-true, eqb-true, eqb-false, eq-eqb, ne-eqb, not-true}
 use Rattle.mealy.specs.Machine.{Machine, outs, end, Letters, Total}
 use Rattle.mealy.specs.Setting.{anyState}
 use Rattle.mealy.specs.Window.{Works}
@@ -130,10 +129,11 @@ module _ (M : Machine) (o : Order) (b a : ℕ) where
   unfoldable pub noneBefore : ℕ → ℕ → Bool
   noneBefore b′ a′ = cond (noLater o (window b a) (window b′ a′)) true (not (worksTest M b′ a′))
 
-  -- tried up to N (N + 1) / 2 letters a side
+  -- tried up to N (N + 1) / 2 letters a side, from the smallest number of letters before on
   unfoldable pub leastTest : Bool
   leastTest =
-      worksTest M b a && allBelow (pairs (M .states) + 1) (λ b′. allBelow (pairs (M .states) + 1) (λ a′. noneBefore b′ a′))
+      let n = pairs (M .states) in
+      worksTest M b a && allBelow (n + 1) (λ k. allBelow (n + 1) (λ a′. noneBefore (n - k) a′))
 
   none-before : (b′ a′ : ℕ) → noneBefore b′ a′ ≡ true → Works (anyState M) b′ a′ → relationOf o b a b′ a′
   unfolding noneBefore
@@ -151,10 +151,12 @@ module _ (M : Machine) (o : Order) (b a : ℕ) where
       let n = pairs (M .states) in
       let S = anyState M in
       let settled : (d : Direction) → Settled S d n = λ d. settled-by S (any-start M) (any-bounded M) d n (omega arith) in
-      let z = both-true (worksTest M b a) (allBelow (n + 1) (λ b′. allBelow (n + 1) (λ a′. noneBefore b′ a′))) e in
+      let row : ℕ → Bool = λ k. allBelow (n + 1) (λ a′. noneBefore (n - k) a′) in
+      let z = both-true (worksTest M b a) (allBelow (n + 1) row) e in
       least-within (is-order o) S (any-closed M total) n (settled forward) n (settled back) b a (works-test M b a (z .0)) (λ b′ a′ l m f.
-      let r = all-at (n + 1) (λ b′. allBelow (n + 1) (λ a′. noneBefore b′ a′)) (z .1) b′ (omega arith) in
-      none-before b′ a′ (all-at (n + 1) (λ a′. noneBefore b′ a′) r a′ (omega arith)) f)
+      let r = all-at (n + 1) row (z .1) (n - b′) (omega arith) in
+      let same : n - (n - b′) ≡ b′ = omega arith in
+      none-before b′ a′ (rw same at (all-at (n + 1) (λ a′. noneBefore (n - (n - b′)) a′) r a′ (omega arith))) f)
 
 -- ---- looped pairs
 

@@ -167,9 +167,9 @@ pub record Demand2 : Type 0 where
 
 -- ---- demand 3: the least window of all, or none of any size, with a looped pair
 
--- Third sentence, its words after the semicolon, of a reported window w beside another, b a, that works. They are those of the archive's
--- order: the other has at least as many letters and, where it has equally many, at least as many of lookahead. In the other order (document
--- 02, 1/13) w has no more letters of lookahead than the other and, where it has as many, no more letters before.
+-- Third sentence, from its semicolon on, of a reported window w beside another, b a, that works, in each order as document 02, 1/13, reads
+-- it. By fewest letters: w has no more letters than b a and, of as many, no more lookahead. By least lookahead: w has no more lookahead
+-- than b a and, of as much, no more letters before.
 abbrev pub NoneBefore : Order → Window → ℕ → ℕ → Type 0
 NoneBefore FewestLetters w b a = (size w ≤ b + 1 + a) × (size w ≡ b + 1 + a → w .after ≤ a)
 NoneBefore LeastLookahead w b a = (w .after ≤ a) × (w .after ≡ a → w .before ≤ b)

@@ -1,10 +1,10 @@
 -- Each order that a search may be made in is an order of windows, and the comparison says which of two windows comes first.
-use mathlib.Core.Path.{_≡_}
-use mathlib.Core.Bool.{true, false}
-use mathlib.Core.Logic.{_↔_}
+use mathlib.Core.Path.{_≡_, sym, _∙_}
+use mathlib.Core.Bool.{true, false, true≢false}
+use mathlib.Core.Logic.{_↔_, inl, inr}
 use Prim.Native.Nat.{ℕ}
 use native.Mathlib.Omega.{arith}
-use borrow.Author.Tests.{ltb-true, ltb-false, leb-true, leb-false, lt-ltb, le-leb, eq-eqb, ne-eqb}
+use borrow.Author.Tests.{ltb-true, leb-true, lt-ltb, le-leb, eq-eqb, ne-eqb}
 use native.Mathlib.Decide.{ℕ-discrete}
 use Rattle.mealy.specs.Order.{IsOrder, InTurn}
 use Rattle.mealy.proofs.Orders.{fewest-letters, least-lookahead}
@@ -41,13 +41,9 @@ pub no-later :
 no-later LeastLookahead w v = in-turn (w .after) (w .before) (v .after) (v .before)
 no-later FewestLetters w v = in-turn (size w) (w .after) (size v) (v .after)
 
-later-turn : (x y x′ y′ : ℕ) → inTurn x y x′ y′ ≡ false → InTurn x′ y′ x y
-later-turn x y x′ y′ e = elim (ℕ-discrete x x′) [
-  | yes z ↦ (let l = leb-false y y′ (rw (eq-eqb x x′ z) at e) in record { first = omega arith; second = λ d. omega arith })
-  | no z ↦ (let l = ltb-false x x′ (rw (ne-eqb x x′ z) at e) in record { first = l; second = λ d. absurd (z (omega arith)) })
-]
-
 -- of a window that comes later the other comes no later
 pub later : (o : Order) (w v : Window) → noLater o w v ≡ false → relationOf o (v .before) (v .after) (w .before) (w .after)
-later LeastLookahead w v = later-turn (w .after) (w .before) (v .after) (v .before)
-later FewestLetters w v = later-turn (size w) (w .after) (size v) (v .after)
+later o w v e = elim (is-order o .total (w .before) (w .after) (v .before) (v .after)) [
+  | inl r ↦ absurd (true≢false (sym (no-later o w v .1 r) ∙ e))
+  | inr r ↦ r
+]

@@ -7,8 +7,8 @@ pub struct Window {
     pub after: usize,
 }
 
-// The order in which a search reports the least window that works: least letters of lookahead and, among those, least letters before;
-// or fewest letters in all and, among those, least letters of lookahead.
+// The order in which a search reports the least window that works: least lookahead and, among those, fewest letters before; or fewest
+// letters in all and, among those, least lookahead.
 pub enum Order {
     LeastLookahead,
     FewestLetters,
