@@ -56,18 +56,18 @@ typedef struct example_row {
     uint8_t counts[3];
     uint8_t entries[16];
     int pair;
-    size_t before, after;
+    size_t before, after, fewest_before, fewest_after;
 } example_row;
 
 static const example_row rows[EXAMPLES] = {
-    {'A', {2, 2, 2}, {0, 0, 1, 1, 1, 1, 0, 0}, 0, 1, 0},
-    {'B', {1, 2, 2}, {0, 0, 0, 1}, 0, 0, 0},
-    {'C', {1, 2, 1}, {0, 0, 0, 0}, 1, 0, 0},
-    {'D', {2, 2, 2}, {0, 0, 1, 0, 0, 1, 1, 1}, 0, 0, 1},
-    {'E', {2, 2, 2}, {0, 0, 1, 1, 0, 1, 1, 0}, 1, 0, 0},
-    {'F', {3, 2, 4}, {1, 0, 2, 0, 1, 0, 1, 1, 2, 2, 2, 3}, 0, 1, 0},
-    {'G', {4, 2, 6}, {1, 4, 1, 5, 2, 0, 3, 0, 2, 0, 2, 1, 3, 2, 3, 3}, 0, 0, 1},
-    {'H', {2, 2, 2}, {0, 0, 0, 1, 1, 0, 1, 0}, 1, 0, 0}
+    {'A', {2, 2, 2}, {0, 0, 1, 1, 1, 1, 0, 0}, 0, 1, 0, 1, 0},
+    {'B', {1, 2, 2}, {0, 0, 0, 1}, 0, 0, 0, 0, 0},
+    {'C', {1, 2, 1}, {0, 0, 0, 0}, 1, 0, 0, 0, 0},
+    {'D', {2, 2, 2}, {0, 0, 1, 0, 0, 1, 1, 1}, 0, 0, 1, 0, 1},
+    {'E', {2, 2, 2}, {0, 0, 1, 1, 0, 1, 1, 0}, 1, 0, 0, 0, 0},
+    {'F', {3, 2, 4}, {1, 0, 2, 0, 1, 0, 1, 1, 2, 2, 2, 3}, 0, 1, 0, 1, 0},
+    {'G', {4, 2, 6}, {1, 4, 1, 5, 2, 0, 3, 0, 2, 0, 2, 1, 3, 2, 3, 3}, 0, 2, 0, 0, 1},
+    {'H', {2, 2, 2}, {0, 0, 0, 1, 1, 0, 1, 0}, 1, 0, 0, 0, 0}
 };
 
 void make_example(size_t k, example *e)
@@ -78,6 +78,8 @@ void make_example(size_t k, example *e)
     e->pair = r->pair;
     e->before = r->before;
     e->after = r->after;
+    e->fewest_before = r->fewest_before;
+    e->fewest_after = r->fewest_after;
     begin_file(&e->file, r->counts[0], r->counts[1], r->counts[2]);
     memcpy(e->file.bytes + 6, r->entries, e->file.len - 6);
 }
@@ -274,6 +276,34 @@ void make_split_chain(coder_file *f, size_t states, size_t turns)
     put_entry(f, states - 2 - turns, states - 1, 0, turns + 1);
     pad_with_own_output(f, states - 1, states - 1, turns + 2);
     pad_shifting(f, states);
+}
+
+/* Of the entries of a state each has an output of its own. Equal outputs under different letters
+   have three pairs of states only: the last of the chain, with p - 1 letters before it, from which
+   the runs go to 0 and states - after, which shift until the second is the last state; {back - 1,
+   back}, with back - 1 letters before it, from which the runs join; and, with a turn of their own,
+   two runs in the last state, which go to 0 and states - ahead. */
+void make_either_chain(coder_file *f, size_t states, size_t turns, size_t after, size_t back,
+                       size_t ahead)
+{
+    size_t last = states - 1, own = 2 * turns + 8, i;
+
+    begin_chain(f, states, turns + 4, turns, 0);
+    put_entry(f, last - 1 - turns, turns + 1, 0, turns + 1);
+    put_entry(f, last, 0, states - after, turns + 1);
+    if (back > 0) {
+        put_entry(f, back - 1, turns + 2, 0, turns + 2);
+        put_entry(f, back, turns + 3, 0, turns + 2);
+    }
+    if (ahead > 0) {
+        put_entry(f, last, turns + 1, 0, turns + 3);
+        put_entry(f, last, turns + 2, states - ahead, turns + 3);
+    }
+    pad_shifting(f, turns + 4);
+    for (i = 0; i < f->bytes[4]; i++)
+        if (is_free(f, last, i))
+            put_entry(f, last, i, 0, own + i);
+    f->bytes[5] = (uint8_t)(own + f->bytes[4]);
 }
 
 /* Closed from the last pair to (1, 0) under different letters. */

@@ -17,12 +17,13 @@ typedef struct coder_file {
 void random_seed(uint64_t seed);
 size_t random_below(size_t limit);
 
-/* An example coder with what is known of it; pair: no decoder. */
+/* An example coder with what is known of it; pair: no decoder. The window with least lookahead, and
+   the one with fewest letters. */
 typedef struct example {
     char name;
     coder_file file;
     int pair;
-    size_t before, after;
+    size_t before, after, fewest_before, fewest_after;
 } example;
 
 enum { EXAMPLES = 8 };
@@ -49,6 +50,13 @@ void make_backward_chain(coder_file *f, size_t states, size_t turns);
 /* The chain of all pairs cut in two: window p q, p pairs up to the cut and q after it; turns at
    most states - 3. */
 void make_split_chain(coder_file *f, size_t states, size_t turns);
+
+/* The chain of p pairs, at whose end two letters cannot be told apart by fewer than p letters before
+   and fewer than `after` letters after them. Besides, every window needs `back` letters before and
+   `ahead` letters after. turns at most states - 3 and 12; after from 1 to states - 2 - turns; back
+   below states; ahead below after. */
+void make_either_chain(coder_file *f, size_t states, size_t turns, size_t after, size_t back,
+                       size_t ahead);
 
 /* The chain of p pairs closed to a loop of 2p letters: no decoder. The back loop, the forward loop
    (turns at most states - 3) or both have to go round it. */

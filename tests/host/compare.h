@@ -65,6 +65,15 @@ reply compare(const arguments *a);
    lent buffer, and their count in field 0. */
 void compare_known(const arguments *a, const uint8_t *bytes, size_t count);
 
+/* ---- trying.c ---- */
+
+/* The bound of a side of a window that is reported: N (N + 1) / 2. */
+size_t side_bound(const coder *c);
+
+/* The windows with so many letters, from `low` letters before to `high`: fails[b] is YES where
+   the one with b letters before fails. */
+void try_windows(const coder *c, size_t letters, size_t low, size_t high, enum answer *fails);
+
 /* ---- verdict.c ---- */
 
 typedef struct verdict {
@@ -79,8 +88,8 @@ typedef struct verdict {
 extern const verdict *const found;
 void forget_verdict(void);
 
-/* What is tried besides the verdict itself: the smaller windows where there is one; where there is
-   none, all windows up to the bound, and the same by following the pair. */
+/* What is tried besides the verdict itself: where there is a window, the windows that come before
+   it; where there is none, all windows up to the bound, and the same by following the pair. */
 void try_verdicts(int smaller, int all, int refute);
 
 /* Judges the verdict and puts what it may write into the wanted buffers. */

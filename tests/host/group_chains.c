@@ -2,11 +2,12 @@
    with some entries changed. */
 #include "calls.h"
 #include "groups.h"
+#include "known_chains.h"
 
 /* What is known of a chain besides its verdict being judged. */
-static void chain_window(const coder_file *f, size_t before, size_t after)
+static void chain_window(const coder_file *f, const least known[ORDERS])
 {
-    known_search(f, 0, before, after);
+    known_search(f, 0, known[LEAST_LOOKAHEAD].before, known[LEAST_LOOKAHEAD].after);
     round_trip(f);
     compare_some_of_each(f);
 }
@@ -19,21 +20,6 @@ static void chain_loop(const coder_file *f, size_t back, size_t forward)
     if (found->known && forward)
         known_value("the forward loop modulo the chain", found->pair.forward_loop % forward, 0);
     compare_some_of_each(f);
-}
-
-static void windows_of_chains(size_t states, size_t turns)
-{
-    coder_file f;
-    size_t pairs = chain_pairs(states, turns);
-
-    make_forward_chain(&f, states, turns);
-    chain_window(&f, 0, pairs);
-    make_backward_chain(&f, states, turns);
-    chain_window(&f, pairs, 0);
-    if (turns + 3 <= states) {
-        make_split_chain(&f, states, turns);
-        chain_window(&f, pairs, states * (states - 1) / 2 - pairs);
-    }
 }
 
 static void loops_of_chains(size_t states, size_t turns)
@@ -59,7 +45,7 @@ void group_chains(void)
     for (n = 2; n <= 16; n++)
         for (turns = 0; turns + 2 <= n; turns++) {
             try_verdicts(n <= 8 || (n == 16 && turns % 7 == 0), n <= 6, n <= 8 || n == 16);
-            windows_of_chains(n, turns);
+            each_known_chain(n, turns, chain_window);
             loops_of_chains(n, turns);
         }
     end_group();

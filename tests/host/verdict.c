@@ -1,13 +1,13 @@
-/* The verdict of a search, judged.
+/* The verdict of a search, judged. The search reports the window with least lookahead and, among
+   those that work, with fewest letters before.
 
-   A window that the search gives is tried. Where the search says "no decoder", its pair is
-   followed, turned 0 to 3 times either way. What is tried besides is set for each group
-   (try_verdicts): every window with fewer letters, or as many and less lookahead; or every window
-   up to N (N + 1) / 2 a side; or the pair cut to two runs of the length of each of these windows. A
-   window is tried by all runs of its length, grouped by output string, as long as there are at most
-   MOST_RUNS of them; beyond that by all pairs of runs around its present letter, with PAIR_STEPS
-   steps at most. Windows for which that does not suffice are counted as left out, and do not fail a
-   group. That a larger window works where a smaller one does is used nowhere. */
+   A window that the search gives is tried, and so is the one with a letter before less. Where the
+   search says "no decoder", its pair is followed, turned 0 to 3 times either way. What is tried
+   besides is set for each group (try_verdicts): every window that comes before the one given, those
+   with less lookahead with up to N (N + 1) / 2 letters before; or every window up to N (N + 1) / 2
+   a side; or the pair cut to two runs of the length of each of these windows. trying.c says how a
+   window is tried. Windows for which its allowance does not suffice are counted as left out, and do
+   not fail a group. */
 #include "compare.h"
 
 #include <string.h>
@@ -31,63 +31,54 @@ void try_verdicts(int smaller, int all, int refute)
     trying.refute = refute;
 }
 
-static size_t side_bound(const coder *c)
-{
-    return c->states * (c->states + 1) / 2;
-}
-
-/* The windows of one length: fails[b] is YES where before = b fails. */
-static void try_windows(const coder *c, size_t letters, size_t low, size_t high,
-                        enum answer *fails)
-{
-    uint8_t marks[MOST_WINDOW];
-    int grouped = fails_by_groups(c, letters, MOST_RUNS, marks);
-    size_t b;
-
-    for (b = low; b <= high; b++) {
-        if (grouped) {
-            fails[b] = marks[b] ? YES : NO;
-        } else {
-            enum answer works;
-
-            allow_steps(PAIR_STEPS);
-            works = works_by_pairs(c, b, letters - 1 - b);
-            fails[b] = works == UNKNOWN ? UNKNOWN : works == YES ? NO : YES;
-        }
-        if (fails[b] == UNKNOWN)
-            now.windows_left++;
-        else
-            now.windows++;
-    }
-}
-
-/* The window works, and none with fewer letters or as many and less lookahead. */
-static void judge_window(const coder *c)
+/* Holds the windows of one length, from `low` letters before to `high`, against the window given:
+   it works, and no other does. */
+static void judge_length(const coder *c, size_t n, size_t low, size_t high)
 {
     enum answer fails[MOST_WINDOW];
-    size_t total = latest.before + 1 + latest.after, n, b;
+    size_t b;
+
+    try_windows(c, n, low, high, fails);
+    for (b = low; b <= high; b++)
+        if (b == latest.before && n - 1 - b == latest.after) {
+            if (fails[b] == YES)
+                differ("window %zu %zu does not work", latest.before, latest.after);
+        } else if (fails[b] == NO) {
+            differ("window %zu %zu found, but %zu %zu works", latest.before, latest.after, b,
+                   n - 1 - b);
+        }
+}
+
+/* The windows with n letters that come before the one given, and that one: less lookahead and any
+   letters before up to the bound; as much lookahead where n is at most the letters of that one. */
+static void judge_smaller(const coder *c, size_t n)
+{
+    size_t side = side_bound(c), total = latest.before + 1 + latest.after;
+    size_t low = n <= latest.after ? 0 : n <= total ? n - 1 - latest.after : n - latest.after;
+
+    judge_length(c, n, low, n - 1 < side ? n - 1 : side);
+}
+
+static void judge_window(const coder *c)
+{
+    size_t side = side_bound(c), total = latest.before + 1 + latest.after, n;
 
     now.decoders++;
-    if (latest.before > side_bound(c) || latest.after > side_bound(c)) {
+    if (latest.before > side || latest.after > side) {
         differ("window %zu %zu passes the bound", latest.before, latest.after);
         latest.known = 0;
         return;
     }
     if (total > now.longest_window)
         now.longest_window = total;
-    for (n = trying.smaller ? 1 : total; n <= total; n++) {
-        size_t low = n < total ? 0 : latest.before;
-
-        try_windows(c, n, low, n - 1, fails);
-        for (b = low; b < n; b++)
-            if (n == total && b == latest.before) {
-                if (fails[b] == YES)
-                    differ("window %zu %zu does not work", latest.before, latest.after);
-            } else if (fails[b] == NO) {
-                differ("window %zu %zu found, but %zu %zu works", latest.before, latest.after, b,
-                       n - 1 - b);
-            }
+    if (trying.smaller) {
+        for (n = 1; n <= total || (latest.after > 0 && n <= side + latest.after); n++)
+            judge_smaller(c, n);
+        return;
     }
+    judge_length(c, total, latest.before, latest.before);
+    if (latest.before > 0)
+        judge_length(c, total - 1, latest.before - 1, latest.before - 1);
 }
 
 /* Every window up to the bound a side: none works. */
