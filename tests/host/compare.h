@@ -18,6 +18,7 @@ typedef struct counts {
     unsigned long coders, comparisons;
     unsigned long decoders, longest_window, pairs, longest_pair;
     unsigned long windows, windows_left, refuted, answers_left;
+    unsigned long cases, cases_left, two_windows;
     unsigned long wanted[CALLS][NUMBERS];
 } counts;
 
@@ -70,9 +71,8 @@ void compare_known(const arguments *a, const uint8_t *bytes, size_t count);
 /* The bound of a side of a window that is reported: N (N + 1) / 2. */
 size_t side_bound(const coder *c);
 
-/* The windows with so many letters, from `low` letters before to `high`: fails[b] is YES where
-   the one with b letters before fails. */
-void try_windows(const coder *c, size_t letters, size_t low, size_t high, enum answer *fails);
+/* Whether the window fails. */
+enum answer window_fails(const coder *c, size_t before, size_t after);
 
 /* ---- verdict.c ---- */
 

@@ -44,6 +44,10 @@ void end_group(void)
         printf(", %lu windows refuted by following pairs", now.refuted);
     if (now.answers_left)
         printf(", %lu long enumerations left out", now.answers_left);
+    if (now.cases)
+        printf(", %lu cases written, %lu left out", now.cases, now.cases_left);
+    if (now.two_windows)
+        printf(", %lu coders with two least windows", now.two_windows);
     printf("%s\n", differences ? ", DIFFERENT" : "");
     fflush(stdout);
     if (differences)
@@ -54,7 +58,7 @@ void end_group(void)
 
 int end_groups(void)
 {
-    printf("%u passed, %u failed\n", groups_passed, groups_failed);
+    printf("groups: %u passed, %u failed\n", groups_passed, groups_failed);
     return groups_failed > 0;
 }
 
@@ -123,7 +127,7 @@ void known_value(const char *what, size_t got, size_t wanted)
 static void on_signal(int number)
 {
     differ("the call raised signal %d", number);
-    printf("%u passed, %u failed\n", groups_passed, groups_failed + 1);
+    printf("groups: %u passed, %u failed\n", groups_passed, groups_failed + 1);
     fflush(stdout);
     _exit(1);
 }

@@ -3,18 +3,26 @@
 #include "calls.h"
 #include "groups.h"
 #include "known_chains.h"
+#include "named_orders.h"
+
+/* The most states for which the enumerator finds the least windows. */
+enum { ENUMERATED = 6 };
 
 /* What is known of a chain besides its verdict being judged. */
 static void chain_window(const coder_file *f, const least known[ORDERS])
 {
     known_search(f, 0, known[LEAST_LOOKAHEAD].before, known[LEAST_LOOKAHEAD].after);
+    name_known_orders(f, known, f->bytes[3] <= ENUMERATED);
     round_trip(f);
     compare_some_of_each(f);
 }
 
 static void chain_loop(const coder_file *f, size_t back, size_t forward)
 {
+    const least none[ORDERS] = {{NO, 0, 0}, {NO, 0, 0}};
+
     known_search(f, 1, 0, 0);
+    name_known_orders(f, none, f->bytes[3] <= ENUMERATED);
     if (found->known && back)
         known_value("the back loop modulo the chain", found->pair.back_loop % back, 0);
     if (found->known && forward)
@@ -51,17 +59,25 @@ void group_chains(void)
     end_group();
 }
 
+static void random_either_chain(coder_file *f, size_t states)
+{
+    size_t turns = random_below(states - 2 < 13 ? states - 2 : 13);
+    size_t after = 1 + random_below(states - 2 - turns);
+
+    make_either_chain(f, states, turns, after, random_below(states), random_below(after));
+}
+
 void group_changed_chains(void)
 {
     coder_file f;
     size_t k, n, turns;
 
     begin_group("chains with some entries changed");
-    for (k = 0; k < 1500; k++) {
+    for (k = 0; k < 2000; k++) {
         n = 3 + random_below(k % 10 == 0 ? 14 : 6);
         turns = random_below(n - 1);
         try_verdicts(n <= 8, n <= 6, n <= 8);
-        switch (k % 4) {
+        switch (k % 5) {
         case 0:
             make_forward_chain(&f, n, turns);
             break;
@@ -71,6 +87,9 @@ void group_changed_chains(void)
         case 2:
             make_split_chain(&f, n, random_below(n - 2));
             break;
+        case 3:
+            random_either_chain(&f, n);
+            break;
         default:
             make_closed_both(&f, n, turns);
         }
@@ -78,6 +97,8 @@ void group_changed_chains(void)
             change_entry(&f);
         while (random_below(2));
         search(&f);
+        if (n <= ENUMERATED)
+            name_orders(&f);
         round_trip(&f);
         compare_some_of_each(&f);
     }

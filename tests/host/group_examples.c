@@ -1,6 +1,7 @@
 /* The examples A to H: what is known of them, and all their arguments of small size. */
 #include "calls.h"
 #include "groups.h"
+#include "named_orders.h"
 
 #include <string.h>
 
@@ -59,6 +60,15 @@ static void known_pair_of_c(const coder_file *f)
     known_value("the pair", get_field(got.result, 0), 1);
 }
 
+static void known_orders(const example *e)
+{
+    enum answer works = e->pair ? NO : YES;
+    const least known[ORDERS] = {{works, e->before, e->after},
+                                 {works, e->fewest_before, e->fewest_after}};
+
+    name_known_orders(&e->file, known, 1);
+}
+
 static void known_values(const example *e)
 {
     static const uint8_t table_a[4] = {0, 1, 1, 0}, table_d[4] = {0, 1, 0, 1};
@@ -66,6 +76,7 @@ static void known_values(const example *e)
     coder c = coder_of_file(e->file.bytes);
 
     known_search(&e->file, e->pair, e->before, e->after);
+    known_orders(e);
     switch (e->name) {
     case 'A':
         known_value("the file's length", e->file.len, sizeof file_a);

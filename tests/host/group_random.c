@@ -1,6 +1,7 @@
 /* Random coders, and random arguments of one call on random coders. */
 #include "calls.h"
 #include "groups.h"
+#include "named_orders.h"
 
 void group_random(void)
 {
@@ -12,6 +13,7 @@ void group_random(void)
     for (k = 0; k < 20000; k++) {
         make_random(&f, 1 + random_below(4), 1 + random_below(3), 1 + random_below(6));
         search(&f);
+        name_orders(&f);
         round_trip(&f);
         compare_some_of_each(&f);
     }

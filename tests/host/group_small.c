@@ -2,6 +2,7 @@
    states. */
 #include "calls.h"
 #include "groups.h"
+#include "named_orders.h"
 
 void group_tiny(void)
 {
@@ -16,6 +17,7 @@ void group_tiny(void)
                 for (k = 0; k < coders_with(n, i, o); k++) {
                     make_numbered(&f, n, i, o, k);
                     search(&f);
+                    name_orders(&f);
                     round_trip(&f);
                     compare_both_ways(&f, 7);
                     all_runs(&f, 4);
@@ -37,6 +39,7 @@ void group_three_states(void)
     for (k = 0; k < coders_with(3, 2, 2); k++) {
         make_numbered(&f, 3, 2, 2, k);
         search(&f);
+        name_orders(&f);
         round_trip(&f);
         compare_some_of_each(&f);
     }

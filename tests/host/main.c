@@ -5,6 +5,7 @@
    is tried for the examples, all small coders and the small random ones; for the large random
    coders the smaller windows, and the cut pair of every 40th; for the chains, as much as their
    number of states allows; for the other groups nothing. */
+#include "case_texts.h"
 #include "coders.h"
 #include "compare.h"
 #include "groups.h"
@@ -13,8 +14,13 @@
 
 enum { SEED = 20250917 };
 
-int main(void)
+int main(int count, char **words)
 {
+    if (count != 2) {
+        fprintf(stderr, "one argument: the folder for the texts of cases\n");
+        return 2;
+    }
+    open_texts(words[1]);
     catch_signals();
     open_buffers();
     random_seed(SEED);
@@ -34,5 +40,7 @@ int main(void)
     group_damaged("damaged arguments, one fault", 1, 150000);
     group_damaged("damaged arguments, two faults", 2, 150000);
     group_damaged("damaged arguments, three faults", 3, 50000);
+    group_orders();
+    close_texts();
     return end_groups();
 }

@@ -1,35 +1,74 @@
 /* Windows tried by enumeration, within an allowance, and counted.
 
-   The windows of one length are tried by all runs of that length, grouped by output string, as long
-   as there are at most MOST_RUNS of them; beyond that each by all pairs of runs around its present
-   letter, with PAIR_STEPS steps at most. That a larger window works where a smaller one does is
-   used nowhere. */
+   A window is tried by all runs of its length, grouped by output string, as long as there are at
+   most MOST_RUNS of them; beyond that by all pairs of runs around its present letter, with
+   PAIR_STEPS steps at most. That a larger window works where a smaller one does is used nowhere.
+   The windows of one coder are kept until another coder comes, and none is tried or counted
+   twice. */
 #include "compare.h"
+
+#include <string.h>
+
+enum way { NOT_YET, BY_GROUPS, BY_PAIRS };
+
+static struct {
+    size_t states, inputs, outputs;
+    uint8_t entries[2 * MOST_STATES * MOST_INPUTS];
+} kept;
+
+/* For each length the way, and by groups what they say of every window of it; for each window, by
+   its letters and its letters before, whether it was tried and whether it fails. */
+static enum way ways[MOST_WINDOW + 1];
+static uint8_t marks[MOST_WINDOW + 1][MOST_WINDOW];
+static uint8_t tried[MOST_WINDOW + 1][MOST_WINDOW];
+static enum answer answers[MOST_WINDOW + 1][MOST_WINDOW];
 
 size_t side_bound(const coder *c)
 {
     return c->states * (c->states + 1) / 2;
 }
 
-void try_windows(const coder *c, size_t letters, size_t low, size_t high, enum answer *fails)
+static void keep_coder(const coder *c)
 {
-    uint8_t marks[MOST_WINDOW];
-    int grouped = fails_by_groups(c, letters, MOST_RUNS, marks);
-    size_t b;
+    size_t bytes = 2 * c->states * c->inputs;
 
-    for (b = low; b <= high; b++) {
-        if (grouped) {
-            fails[b] = marks[b] ? YES : NO;
-        } else {
-            enum answer works;
+    if (kept.states == c->states && kept.inputs == c->inputs && kept.outputs == c->outputs
+        && memcmp(kept.entries, c->entries, bytes) == 0)
+        return;
+    kept.states = c->states;
+    kept.inputs = c->inputs;
+    kept.outputs = c->outputs;
+    memcpy(kept.entries, c->entries, bytes);
+    memset(ways, 0, sizeof ways);
+    memset(tried, 0, sizeof tried);
+}
 
-            allow_steps(PAIR_STEPS);
-            works = works_by_pairs(c, b, letters - 1 - b);
-            fails[b] = works == UNKNOWN ? UNKNOWN : works == YES ? NO : YES;
-        }
-        if (fails[b] == UNKNOWN)
+static enum answer try_window(const coder *c, size_t before, size_t after)
+{
+    size_t n = before + 1 + after;
+    enum answer works;
+
+    if (ways[n] == NOT_YET)
+        ways[n] = fails_by_groups(c, n, MOST_RUNS, marks[n]) ? BY_GROUPS : BY_PAIRS;
+    if (ways[n] == BY_GROUPS)
+        return marks[n][before] ? YES : NO;
+    allow_steps(PAIR_STEPS);
+    works = works_by_pairs(c, before, after);
+    return works == UNKNOWN ? UNKNOWN : works == YES ? NO : YES;
+}
+
+enum answer window_fails(const coder *c, size_t before, size_t after)
+{
+    size_t n = before + 1 + after;
+
+    keep_coder(c);
+    if (!tried[n][before]) {
+        tried[n][before] = 1;
+        answers[n][before] = try_window(c, before, after);
+        if (answers[n][before] == UNKNOWN)
             now.windows_left++;
         else
             now.windows++;
     }
+    return answers[n][before];
 }

@@ -31,37 +31,19 @@ void try_verdicts(int smaller, int all, int refute)
     trying.refute = refute;
 }
 
-/* Holds the windows of one length, from `low` letters before to `high`, against the window given:
-   it works, and no other does. */
-static void judge_length(const coder *c, size_t n, size_t low, size_t high)
+/* A window that comes before the one given: it does not work. */
+static void try_earlier(const coder *c, size_t before, size_t after)
 {
-    enum answer fails[MOST_WINDOW];
-    size_t b;
-
-    try_windows(c, n, low, high, fails);
-    for (b = low; b <= high; b++)
-        if (b == latest.before && n - 1 - b == latest.after) {
-            if (fails[b] == YES)
-                differ("window %zu %zu does not work", latest.before, latest.after);
-        } else if (fails[b] == NO) {
-            differ("window %zu %zu found, but %zu %zu works", latest.before, latest.after, b,
-                   n - 1 - b);
-        }
+    if (window_fails(c, before, after) == NO)
+        differ("window %zu %zu found, but %zu %zu works", latest.before, latest.after, before,
+               after);
 }
 
-/* The windows with n letters that come before the one given, and that one: less lookahead and any
-   letters before up to the bound; as much lookahead where n is at most the letters of that one. */
-static void judge_smaller(const coder *c, size_t n)
-{
-    size_t side = side_bound(c), total = latest.before + 1 + latest.after;
-    size_t low = n <= latest.after ? 0 : n <= total ? n - 1 - latest.after : n - latest.after;
-
-    judge_length(c, n, low, n - 1 < side ? n - 1 : side);
-}
-
+/* The window works, and none that comes before it: less lookahead, whatever the letters before; as
+   much lookahead and fewer letters before. */
 static void judge_window(const coder *c)
 {
-    size_t side = side_bound(c), total = latest.before + 1 + latest.after, n;
+    size_t side = side_bound(c), total = latest.before + 1 + latest.after, b, a;
 
     now.decoders++;
     if (latest.before > side || latest.after > side) {
@@ -71,30 +53,28 @@ static void judge_window(const coder *c)
     }
     if (total > now.longest_window)
         now.longest_window = total;
-    if (trying.smaller) {
-        for (n = 1; n <= total || (latest.after > 0 && n <= side + latest.after); n++)
-            judge_smaller(c, n);
-        return;
-    }
-    judge_length(c, total, latest.before, latest.before);
+    if (window_fails(c, latest.before, latest.after) == YES)
+        differ("window %zu %zu does not work", latest.before, latest.after);
     if (latest.before > 0)
-        judge_length(c, total - 1, latest.before - 1, latest.before - 1);
+        try_earlier(c, latest.before - 1, latest.after);
+    if (!trying.smaller)
+        return;
+    for (a = 0; a < latest.after; a++)
+        for (b = 0; b <= side; b++)
+            try_earlier(c, b, a);
+    for (b = 0; b < latest.before; b++)
+        try_earlier(c, b, latest.after);
 }
 
 /* Every window up to the bound a side: none works. */
 static void try_all_windows(const coder *c)
 {
-    enum answer fails[MOST_WINDOW];
-    size_t side = side_bound(c), n, b;
+    size_t side = side_bound(c), b, a;
 
-    for (n = 1; n <= 2 * side + 1; n++) {
-        size_t low = n - 1 > side ? n - 1 - side : 0, high = n - 1 < side ? n - 1 : side;
-
-        try_windows(c, n, low, high, fails);
-        for (b = low; b <= high; b++)
-            if (fails[b] == NO)
-                differ("no decoder found, but window %zu %zu works", b, n - 1 - b);
-    }
+    for (b = 0; b <= side; b++)
+        for (a = 0; a <= side; a++)
+            if (window_fails(c, b, a) == NO)
+                differ("no decoder found, but window %zu %zu works", b, a);
 }
 
 static void refute_all_windows(const coder *c)

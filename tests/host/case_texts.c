@@ -1,0 +1,139 @@
+/* Writes texts of cases, each at most as long as the program cases reads. */
+#include "case_texts.h"
+
+#include "compare.h"
+
+#include <stdarg.h>
+#include <stdio.h>
+#include <string.h>
+
+enum { MOST_TEXT = 65535, MOST_BLOCK = 8192, MOST_TEXTS = 999, BEFORE_CALL = 238 };
+
+static const char *texts_folder;
+static char text[MOST_TEXT], block[MOST_BLOCK];
+static size_t text_len, text_cases, block_len, block_cases;
+static size_t texts, cases_of[MOST_TEXTS + 1];
+
+void open_texts(const char *folder)
+{
+    texts_folder = folder;
+}
+
+static void write_file(const char *name, const char *bytes, size_t len)
+{
+    char path[4096];
+    FILE *to;
+    int kept;
+
+    snprintf(path, sizeof path, "%s/%s", texts_folder, name);
+    to = fopen(path, "w");
+    kept = to && fwrite(bytes, 1, len, to) == len;
+    if (!to || fclose(to) != 0 || !kept)
+        differ("%s could not be written", path);
+}
+
+static void name_text(char name[32], size_t k)
+{
+    snprintf(name, 32, "%03zu", k);
+}
+
+static void end_text(void)
+{
+    char name[32];
+
+    if (text_len == 0)
+        return;
+    if (texts == MOST_TEXTS) {
+        differ("more than %d texts of cases", MOST_TEXTS);
+        return;
+    }
+    cases_of[++texts] = text_cases;
+    name_text(name, texts);
+    write_file(name, text, text_len);
+    text_len = text_cases = 0;
+}
+
+/* A coder file and its cases go into the text, or into the next one. */
+static void end_block(void)
+{
+    if (text_len + block_len > MOST_TEXT)
+        end_text();
+    memcpy(text + text_len, block, block_len);
+    text_len += block_len;
+    text_cases += block_cases;
+    block_len = block_cases = 0;
+}
+
+static void put(const char *what, ...)
+{
+    va_list list;
+    int len;
+
+    va_start(list, what);
+    len = vsnprintf(block + block_len, MOST_BLOCK - block_len, what, list);
+    va_end(list);
+    if (len < 0 || (size_t)len >= MOST_BLOCK - block_len)
+        differ("too many cases for one coder file");
+    else
+        block_len += (size_t)len;
+}
+
+void text_file(const uint8_t *file, size_t len)
+{
+    size_t k;
+
+    end_block();
+    put(len > 0 ? "file" : "file -");
+    for (k = 0; k < len; k++)
+        put(" %u", file[k]);
+    put("\n");
+}
+
+static void put_call(enum order order, size_t lent)
+{
+    put("%s into %zu = ", order == LEAST_LOOKAHEAD ? "least_lookahead" : "fewest_letters", lent);
+    block_cases++;
+    now.cases++;
+}
+
+/* The lent buffer as it was before the call: no bytes, or at least two. */
+static void put_buffer(size_t lent)
+{
+    if (lent == 0)
+        put(", buffer -\n");
+    else
+        put(", buffer %d*%zu\n", BEFORE_CALL, lent);
+}
+
+void text_refusal(enum order order, size_t lent, size_t number)
+{
+    put_call(order, lent);
+    put("refused %zu", number);
+    put_buffer(lent);
+}
+
+void text_answer(enum order order, size_t lent, const least *window)
+{
+    put_call(order, lent);
+    if (window->works == NO) {
+        put("no decoder, checked, within bounds, rest kept\n");
+        return;
+    }
+    put("window %zu %zu", window->before, window->after);
+    put_buffer(lent);
+}
+
+void close_texts(void)
+{
+    static char list[32 * MOST_TEXTS];
+    char name[32];
+    size_t len = 0, k;
+
+    end_block();
+    end_text();
+    for (k = 1; k <= texts; k++) {
+        name_text(name, k);
+        len += (size_t)snprintf(list + len, sizeof list - len, "%s %zu\n", name, cases_of[k]);
+    }
+    write_file("list", list, len);
+}

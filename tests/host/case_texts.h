@@ -1,0 +1,23 @@
+/* Texts of cases for the program cases: searches in a named order, with what each is to give.
+   crates/cases/stdin says how a case is written. */
+#ifndef CASE_TEXTS_H
+#define CASE_TEXTS_H
+
+#include "orders.h"
+
+/* The texts go into this folder as 001, 002 and so on, and `list` has for each its name and how
+   many cases it has. */
+void open_texts(const char *folder);
+
+/* The coder file of the cases after it; it stands in one text with them. */
+void text_file(const uint8_t *file, size_t len);
+
+/* The search in this order, lent so many bytes, and what it gives: a refusal, or the first window
+   that works or that there is none; known to work or not. */
+void text_refusal(enum order order, size_t lent, size_t number);
+void text_answer(enum order order, size_t lent, const least *window);
+
+/* Ends the last text and writes the list. */
+void close_texts(void);
+
+#endif

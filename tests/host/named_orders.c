@@ -1,0 +1,62 @@
+/* The search in a named order, on one coder. The calls from C name no order, so cases are written
+   for the program cases, which calls the library by its own interface. Which windows come first is
+   found with no help of the library. A window that is not known is written in no case. */
+#include "named_orders.h"
+
+#include "case_texts.h"
+#include "compare.h"
+
+static int is_same(const least *one, const least *other)
+{
+    return one->works == other->works && one->before == other->before
+        && one->after == other->after;
+}
+
+static void write_cases(const coder_file *f, const least in_order[ORDERS])
+{
+    int order;
+
+    if (!is_same(&in_order[LEAST_LOOKAHEAD], &in_order[FEWEST_LETTERS]))
+        now.two_windows++;
+    text_file(f->bytes, f->len);
+    for (order = 0; order < ORDERS; order++)
+        if (in_order[order].works == UNKNOWN)
+            now.cases_left++;
+        else
+            text_answer((enum order)order, SEARCH_BYTES + 4, &in_order[order]);
+}
+
+static void same_window(const least *got, const least *wanted)
+{
+    known_value("whether a window works", got->works, wanted->works);
+    known_value("the least window's before", got->before, wanted->before);
+    known_value("the least window's after", got->after, wanted->after);
+}
+
+void name_orders(const coder_file *f)
+{
+    coder c = coder_of_file(f->bytes);
+    least in_order[ORDERS], reported;
+
+    least_windows(&c, in_order);
+    write_cases(f, in_order);
+    reported.works = found->is_pair ? NO : YES;
+    reported.before = found->before;
+    reported.after = found->after;
+    if (found->known && in_order[LEAST_LOOKAHEAD].works != UNKNOWN)
+        same_window(&reported, &in_order[LEAST_LOOKAHEAD]);
+}
+
+void name_known_orders(const coder_file *f, const least known[ORDERS], int enumerate)
+{
+    coder c = coder_of_file(f->bytes);
+    least in_order[ORDERS];
+    int order;
+
+    write_cases(f, known);
+    if (!enumerate)
+        return;
+    least_windows(&c, in_order);
+    for (order = 0; order < ORDERS; order++)
+        same_window(&in_order[order], &known[order]);
+}

@@ -1,0 +1,15 @@
+/* The search in a named order, on one coder: cases for the program cases. */
+#ifndef NAMED_ORDERS_H
+#define NAMED_ORDERS_H
+
+#include "coders.h"
+#include "orders.h"
+
+/* Cases with the windows that the enumerator finds. The latest verdict, which is this coder's, is
+   held against them. */
+void name_orders(const coder_file *f);
+
+/* Cases with the windows known beforehand; where asked, the enumerator has to find the same. */
+void name_known_orders(const coder_file *f, const least known[ORDERS], int enumerate);
+
+#endif
