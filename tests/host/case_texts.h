@@ -17,7 +17,7 @@ void text_file(const uint8_t *file, size_t len);
 void text_refusal(enum order order, size_t lent, size_t number);
 void text_answer(enum order order, size_t lent, const least *window);
 
-/* Ends the last text and writes the list. */
+/* Ends the last text and writes the list; nothing is written after it. */
 void close_texts(void);
 
 #endif

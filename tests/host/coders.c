@@ -278,11 +278,12 @@ void make_split_chain(coder_file *f, size_t states, size_t turns)
     pad_shifting(f, states);
 }
 
-/* Of the entries of a state each has an output of its own. Equal outputs under different letters
-   have three pairs of states only: the last of the chain, with p - 1 letters before it, from which
-   the runs go to 0 and states - after, which shift until the second is the last state; {back - 1,
-   back}, with back - 1 letters before it, from which the runs join; and, with a turn of their own,
-   two runs in the last state, which go to 0 and states - ahead. */
+/* Equal outputs under different letters lie at three places only. At the last pair of the chain,
+   with p - 1 letters before it: the runs go on in 0 and states - after, a pair off the chain, which
+   shifts for after - 1 letters. At {back - 1, back}, with back - 1 letters before it: the runs join
+   in 0. In the last state, where the two runs may have been one: they go on in 0 and states -
+   ahead, also off the chain. The padding adds none: in the last state an output for each entry, in
+   the others shifts with an output for each letter. */
 void make_either_chain(coder_file *f, size_t states, size_t turns, size_t after, size_t back,
                        size_t ahead)
 {

@@ -51,10 +51,10 @@ void make_backward_chain(coder_file *f, size_t states, size_t turns);
    most states - 3. */
 void make_split_chain(coder_file *f, size_t states, size_t turns);
 
-/* The chain of p pairs, at whose end two letters cannot be told apart by fewer than p letters before
-   and fewer than `after` letters after them. Besides, every window needs `back` letters before and
-   `ahead` letters after. turns at most states - 3 and 12; after from 1 to states - 2 - turns; back
-   below states; ahead below after. */
+/* The chain of p pairs, whose end is told by p letters before it or by `after` letters after it.
+   Besides, every window needs `back` letters before and `ahead` letters after. So window b a works
+   where b >= p or a >= after, and b >= back, and a >= ahead. turns at most states - 3 and 12; after
+   from 1 to states - 2 - turns; back below states; ahead below after. */
 void make_either_chain(coder_file *f, size_t states, size_t turns, size_t after, size_t back,
                        size_t ahead);
 

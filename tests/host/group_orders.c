@@ -1,5 +1,5 @@
 /* The search in a named order, refused and at the edge of it: each order with both sides of the
-   buffer's length, and with each number of the file. */
+   buffer's length, and with each number of the file. The last group: it ends the texts of cases. */
 #include "calls.h"
 #include "case_texts.h"
 #include "groups.h"
@@ -18,6 +18,7 @@ static void refused(const uint8_t *file, size_t len, size_t lent, size_t number)
     a.file_len = len;
     a.lent_len = lent;
     a.result_len = RESULT_BYTES;
+    show_call(&a);
     known_value("the number of refusal", refusal_of_call(&a), number);
     text_file(file, len);
     for (order = 0; order < ORDERS; order++)
@@ -80,5 +81,6 @@ void group_orders(void)
         edge_buffers(&e);
     }
     refused_files();
+    close_texts();
     end_group();
 }

@@ -17,7 +17,7 @@ static void visit_one(visitor *visit, const coder_file *f, size_t before, size_t
 }
 
 /* Forward: the different letters lie in the padding, where both runs are in one state, with any
-   number of letters before. Behind it they are in two states and go on for p - 1 letters at most,
+   number of letters before. After it they are in two states and go on for p - 1 letters at most,
    from the first pair. So the windows with a >= p work and no others: 0 p is least in both orders.
 
    Backward: the different letters lie at the last pair, with p - 1 letters before, and the runs

@@ -1,10 +1,14 @@
 /* The comparison of the library with the enumerator: all six calls, every byte of every buffer.
-   One line for each group of comparisons; the last line counts the groups.
+   One line for each group of comparisons; the last line counts the groups. Argument: the folder for
+   the texts of cases.
 
    verdict.c says how the verdict of a search is judged, and what can be tried besides. All of that
    is tried for the examples, all small coders and the small random ones; for the large random
-   coders the smaller windows, and the cut pair of every 40th; for the chains, as much as their
-   number of states allows; for the other groups nothing. */
+   coders the windows that come before the one found, and the cut pair of every 40th; for the
+   chains, as much as their number of states allows; for the other groups nothing.
+
+   Cases in named orders (named_orders.c) are written for the examples, all small coders, the small
+   random ones, the chains, and the changed chains of up to 6 states. */
 #include "case_texts.h"
 #include "coders.h"
 #include "compare.h"
@@ -41,6 +45,5 @@ int main(int count, char **words)
     group_damaged("damaged arguments, two faults", 2, 150000);
     group_damaged("damaged arguments, three faults", 3, 50000);
     group_orders();
-    close_texts();
     return end_groups();
 }

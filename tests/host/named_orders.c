@@ -6,18 +6,19 @@
 #include "case_texts.h"
 #include "compare.h"
 
-static int is_same(const least *one, const least *other)
+static int two_windows(const least in_order[ORDERS])
 {
-    return one->works == other->works && one->before == other->before
-        && one->after == other->after;
+    const least *one = &in_order[LEAST_LOOKAHEAD], *other = &in_order[FEWEST_LETTERS];
+
+    return one->works == YES && other->works == YES
+        && (one->before != other->before || one->after != other->after);
 }
 
 static void write_cases(const coder_file *f, const least in_order[ORDERS])
 {
     int order;
 
-    if (!is_same(&in_order[LEAST_LOOKAHEAD], &in_order[FEWEST_LETTERS]))
-        now.two_windows++;
+    now.two_windows += two_windows(in_order);
     text_file(f->bytes, f->len);
     for (order = 0; order < ORDERS; order++)
         if (in_order[order].works == UNKNOWN)
@@ -58,5 +59,8 @@ void name_known_orders(const coder_file *f, const least known[ORDERS], int enume
         return;
     least_windows(&c, in_order);
     for (order = 0; order < ORDERS; order++)
-        same_window(&in_order[order], &known[order]);
+        if (in_order[order].works == UNKNOWN)
+            differ("the allowance does not suffice to find the least window");
+        else
+            same_window(&in_order[order], &known[order]);
 }

@@ -59,11 +59,11 @@ static void judge_window(const coder *c)
         try_earlier(c, latest.before - 1, latest.after);
     if (!trying.smaller)
         return;
+    for (b = 0; b + 1 < latest.before; b++)
+        try_earlier(c, b, latest.after);
     for (a = 0; a < latest.after; a++)
         for (b = 0; b <= side; b++)
             try_earlier(c, b, a);
-    for (b = 0; b < latest.before; b++)
-        try_earlier(c, b, latest.after);
 }
 
 /* Every window up to the bound a side: none works. */
