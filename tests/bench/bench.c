@@ -247,6 +247,8 @@ int main(void)
     bench_search("search: chain, 16 states, long lookahead");
     make_backward_chain(&file, 16, 14);
     bench_search("search: chain, 16 states, many letters before");
+    make_either_chain(&file, 16, 12, 1, 0, 0);
+    bench_search("search: chain, 16 states, the orders differ");
     make_closed_both(&file, 16, 13);
     bench_search("search: closed chain, 16 states, long looped pair");
 
