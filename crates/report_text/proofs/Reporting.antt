@@ -26,7 +26,7 @@ use Rattle.search.specs.declared.Verdict.the-variants.{Least, NoDecoder}
 use Rattle.text.specs.Placed.{Placed}
 use Rattle.text.proofs.Placing.{written-then}
 use Rattle.report_text.specs.Text.{SecondWritten, ReportWritten}
-use Rattle.report_text.specs.Report.{refusedText, coderLine, windowLine, noDecoderLine, ReportPromise}
+use Rattle.report_text.specs.Report.{refusedText, coderLine, windowLine, noDecoderLine}
 use Rattle.report_text.specs.Report.SecondLine.{a-window, no-window}
 use Rattle.report_text.proofs.Lengths.{refused-length, window-length}
 

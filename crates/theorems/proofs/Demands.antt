@@ -26,7 +26,6 @@ use Rattle.values.specs.declared.Order.{Order}
 use Rattle.values.specs.declared.Order.the-variants.{LeastLookahead, FewestLetters}
 use Rattle.fitting.specs.Answer.{meaning, RightByte}
 use Rattle.fitting.specs.declared.Answer.{Answer}
-use Rattle.fitting.specs.declared.Answer.the-variants.{None}
 use Rattle.decoder.specs.Written.{Written}
 use Rattle.decoder.specs.Count.{CountPromise}
 use Rattle.decoder.specs.Refusal.{windowRefusal, stringRefusal, tableSize, tableRefusal}

@@ -9,11 +9,9 @@ use Rattle.mealy.specs.Product.{pairs}
 use Rattle.coder.specs.Limits.{maxSide}
 use Rattle.coder.specs.File.{fileRefusal, statesOf, machineOf}
 use Rattle.coder.proofs.Accepted.{accepted}
-use Rattle.running.specs.declared.RunResult as run
 use Rattle.product.proofs.Depths.{pairs-high}
 use Rattle.values.specs.Window.{window}
 use Rattle.decoder.specs.Places.{places}
-use Rattle.decoder.specs.declared.CountResult as count
 use Rattle.values.specs.Order.{defaultOrder}
 use Rattle.search.specs.Search.{SearchPromise}
 use Rattle.search.specs.declared.SearchResult.the-variants.{Found}

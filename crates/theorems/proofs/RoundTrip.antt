@@ -16,7 +16,6 @@ use Rattle.coder.specs.Refusal.{lettersBelow}
 use Rattle.coder.specs.File.{statesOf, inputsOf, outputsOf, machineOf}
 use Rattle.running.specs.Run.{runRefusal, runRefusalIn, RunPromise}
 use Rattle.running.specs.declared.RunResult.{RunResult}
-use Rattle.running.specs.declared.RunResult as run
 use Rattle.coder.proofs.Accepted.{accepted}
 use Rattle.coder.proofs.Tables.{output-below}
 use Rattle.product.proofs.Depths.{pairs-high}
