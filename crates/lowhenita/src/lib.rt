@@ -6,7 +6,7 @@ ghost use Rattle.values.specs.Window.{window};
 ghost use Rattle.values.specs.Pair.{pairOf, loopedPair};
 ghost use Rattle.layout.specs.Layout.{resultBytes};
 ghost use Rattle.lowhenita.specs.Host.{RunHosted, SearchHosted, DecodeHosted, CheckHosted, WindowHosted, TableHosted};
-use values::inner::default_order;
+use values::Order;
 
 // The bytes of the result buffer that each call wants.
 const RESULT: usize = 64;
@@ -53,7 +53,7 @@ pub extern "C" fn lowhenita_search(file: &[u8], letters: &mut [u8], result: &mut
     if k != 0 {
         return k;
     }
-    let verdict = search::inner::checked(file, default_order(), letters);
+    let verdict = search::inner::checked(file, Order::DEFAULT, letters);
     layout::inner::put_verdict(result, verdict);
     0
 }

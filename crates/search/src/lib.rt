@@ -22,7 +22,7 @@ pub enum SearchResult {
 pub fn search(file: &[u8], letters: &mut [u8]) -> SearchResult
     ensures { λ r. ⌜ SearchPromise defaultOrder (now (file .entry)) (now (letters .entry)) r (now (letters .exit)) ⌝ }
 {
-    search_in_order(file, values::inner::default_order(), letters)
+    search_in_order(file, Order::DEFAULT, letters)
 }
 
 // The same in an order that the caller names.

@@ -45,7 +45,7 @@ use Rattle.search.proofs.Determined.{found, no-decoder-exactly}
 use Rattle.checker.specs.Check.{checkRefusal}
 use Rattle.lowhenita.specs.Host.{roomy, Hosted}
 use Rattle.theorems.specs.Published.{longEnough, givenResult}
-use Rattle.theorems.specs.Demands.{Demand1, Said, SaidByte, Demand2, Demand3, NoneBefore, Demanded, FromC}
+use Rattle.theorems.specs.Demands.{Demand1, Said, SaidByte, Demand2, Demand3, NoLater, Demanded, FromC}
 use Rattle.theorems.proofs.Published.{file-published, run-published, search-published, check-published, window-published, string-published, table-published}
 use Rattle.theorems.proofs.Counted.{counted}
 use Rattle.theorems.proofs.Handing.{search-found, run-handed, search-handed, decode-handed, table-handed, check-handed, window-handed}
@@ -213,9 +213,9 @@ demand-2 = record {
 
 -- ---- demand 3
 
-none-before : (o : Order) (w : Window) (b a : ℕ) → relationOf o (w .before) (w .after) b a → NoneBefore o w b a
-none-before FewestLetters w b a r = (r .first, r .second)
-none-before LeastLookahead w b a r = (r .first, r .second)
+in-words : (o : Order) (w : Window) (b a : ℕ) → relationOf o (w .before) (w .after) b a → NoLater o w b a
+in-words FewestLetters w b a r = (r .first, r .second)
+in-words LeastLookahead w b a r = (r .first, r .second)
 
 demanded :
     (o : Order) (f before : List ℕ) (v : Verdict) (after : List ℕ) → SearchPromise o f before (Found v) after → Demanded o f v after
@@ -226,9 +226,9 @@ demanded o f before v after p =
       valid = λ q e. let s : Says (relationOf o) (settingOf f) (NoDecoder q) before after = rw e at says in s .valid;
       turned = λ q e. let s : Says (relationOf o) (settingOf f) (NoDecoder q) before after = rw e at says in s .turned;
       works = λ w e. let s : Says (relationOf o) (settingOf f) (Least w) before after = rw e at says in s .least .works;
-      none-before = λ w e b a h.
+      no-later = λ w e b a h.
           let s : Says (relationOf o) (settingOf f) (Least w) before after = rw e at says in
-          none-before o w b a (s .least .least b a h);
+          in-words o w b a (s .least .least b a h);
     }
 
 pub demand-3 : Demand3

@@ -56,7 +56,7 @@ use Rattle.checker.specs.Check.{checkRefusal, CheckedRight}
 use Rattle.theorems.specs.Starred as claimed
 use Rattle.theorems.specs.Starred.{Claim, Case, Holds, AllHold, AllCases, starred}
 use Rattle.theorems.proofs.SearchChecked.{yes-only}
-use Rattle.theorems.proofs.Tests.{sameList, same-list, allWords, agree, worksTest, noneBefore, leastTest, least-test, closesTest, validTest, valid-test, differentTest, different-test}
+use Rattle.theorems.proofs.Tests.{sameList, same-list, allWords, agree, worksTest, laterOrFails, leastTest, least-test, closesTest, validTest, valid-test, differentTest, different-test}
 
 -- ---- the test of a claim
 
@@ -234,7 +234,7 @@ cases-hold (c ∷ cs) e =
     (z, claims-hold (c .file) z (c .claims) (u .0), cases-hold cs (u .1))
 
 passed : testCases starred ≡ true
-unfolding test checkRefusal windowRefusal tableRefusal runRefusal sidesRefusal leastTest noneBefore worksTest agree allWords validTest closesTest differentTest allBelow fileRefusal entriesRefusal inRange within entryInRange machineOf entryOf coderOf table tableAt decoded pass added add contribution gather unionOf answerOf leadingZeros hasKey isEntry over windowAt
+unfolding test checkRefusal windowRefusal tableRefusal runRefusal sidesRefusal leastTest laterOrFails worksTest agree allWords validTest closesTest differentTest allBelow fileRefusal entriesRefusal inRange within entryInRange machineOf entryOf coderOf table tableAt decoded pass added add contribution gather unionOf answerOf leadingZeros hasKey isEntry over windowAt
 passed = refl
 
 -- every starred case: its file is accepted, and all that is claimed of it holds

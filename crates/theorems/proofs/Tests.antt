@@ -126,18 +126,18 @@ module _ (M : Machine) (b a : ℕ) where
 
 module _ (M : Machine) (o : Order) (b a : ℕ) where
   -- b a comes no later than the window b′ a′, or that does not work
-  unfoldable pub noneBefore : ℕ → ℕ → Bool
-  noneBefore b′ a′ = cond (noLater o (window b a) (window b′ a′)) true (not (worksTest M b′ a′))
+  unfoldable pub laterOrFails : ℕ → ℕ → Bool
+  laterOrFails b′ a′ = cond (noLater o (window b a) (window b′ a′)) true (not (worksTest M b′ a′))
 
   -- tried up to N (N + 1) / 2 letters a side, from the smallest number of letters before on
   unfoldable pub leastTest : Bool
   leastTest =
       let n = pairs (M .states) in
-      worksTest M b a && allBelow (n + 1) (λ k. allBelow (n + 1) (λ a′. noneBefore (n - k) a′))
+      worksTest M b a && allBelow (n + 1) (λ k. allBelow (n + 1) (λ a′. laterOrFails (n - k) a′))
 
-  none-before : (b′ a′ : ℕ) → noneBefore b′ a′ ≡ true → Works (anyState M) b′ a′ → relationOf o b a b′ a′
-  unfolding noneBefore
-  none-before b′ a′ e f = go (noLater o (window b a) (window b′ a′)) refl e
+  later-or-fails : (b′ a′ : ℕ) → laterOrFails b′ a′ ≡ true → Works (anyState M) b′ a′ → relationOf o b a b′ a′
+  unfolding laterOrFails
+  later-or-fails b′ a′ e f = go (noLater o (window b a) (window b′ a′)) refl e
     where
       go :
           (t : Bool) → noLater o (window b a) (window b′ a′) ≡ t → cond t true (not (worksTest M b′ a′)) ≡ true →
@@ -151,12 +151,12 @@ module _ (M : Machine) (o : Order) (b a : ℕ) where
       let n = pairs (M .states) in
       let S = anyState M in
       let settled : (d : Direction) → Settled S d n = λ d. settled-by S (any-start M) (any-bounded M) d n (omega arith) in
-      let row : ℕ → Bool = λ k. allBelow (n + 1) (λ a′. noneBefore (n - k) a′) in
+      let row : ℕ → Bool = λ k. allBelow (n + 1) (λ a′. laterOrFails (n - k) a′) in
       let z = both-true (worksTest M b a) (allBelow (n + 1) row) e in
       least-within (is-order o) S (any-closed M total) n (settled forward) n (settled back) b a (works-test M b a (z .0)) (λ b′ a′ l m f.
       let r = all-at (n + 1) row (z .1) (n - b′) (omega arith) in
       let same : n - (n - b′) ≡ b′ = omega arith in
-      none-before b′ a′ (rw same at (all-at (n + 1) (λ a′. noneBefore (n - (n - b′)) a′) r a′ (omega arith))) f)
+      later-or-fails b′ a′ (rw same at (all-at (n + 1) (λ a′. laterOrFails (n - (n - b′)) a′) r a′ (omega arith))) f)
 
 -- ---- looped pairs
 

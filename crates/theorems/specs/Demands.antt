@@ -167,12 +167,12 @@ pub record Demand2 : Type 0 where
 
 -- ---- demand 3: the least window of all, or none of any size, with a looped pair
 
--- Third sentence, from its semicolon on, of a reported window w beside another, b a, that works, in each order as document 02, 1/13, reads
--- it. By fewest letters: w has no more letters than b a and, of as many, no more lookahead. By least lookahead: w has no more lookahead
--- than b a and, of as much, no more letters before.
-abbrev pub NoneBefore : Order → Window → ℕ → ℕ → Type 0
-NoneBefore FewestLetters w b a = (size w ≤ b + 1 + a) × (size w ≡ b + 1 + a → w .after ≤ a)
-NoneBefore LeastLookahead w b a = (w .after ≤ a) × (w .after ≡ a → w .before ≤ b)
+-- The third sentence from its semicolon on, in each order as document 02, 1/13, reads it, of a reported window w and any b a that works: w
+-- comes no later than b a. By fewest letters, w has no more letters than b a and, of as many, no more lookahead; by least lookahead, no
+-- more lookahead and, of as much, no more letters before.
+abbrev pub NoLater : Order → Window → ℕ → ℕ → Type 0
+NoLater FewestLetters w b a = (size w ≤ b + 1 + a) × (size w ≡ b + 1 + a → w .after ≤ a)
+NoLater LeastLookahead w b a = (w .after ≤ a) × (w .after ≡ a → w .before ≤ b)
 
 -- What is demanded of the verdict of a search in the order o on a file, the letters of a looped pair lying in the buffer.
 pub record Demanded (o : Order) (f : List ℕ) (v : Verdict) (buffer : List ℕ) : Type 0 where
@@ -181,9 +181,9 @@ pub record Demanded (o : Order) (f : List ℕ) (v : Verdict) (buffer : List ℕ)
   -- second sentence: the pair is valid, and its two runs are as demanded for every k and every m
   pub valid : (p : LoopedPair) → v ≡ NoDecoder p → Valid (settingOf f) (pairOf p buffer)
   pub turned : (p : LoopedPair) → v ≡ NoDecoder p → (k m : ℕ) → TurnedRuns (settingOf f) (pairOf p buffer) k m
-  -- third sentence: the window works, and no other that works comes before it
+  -- third sentence: the window works, and comes no later than any other that works
   pub works : (w : Window) → v ≡ Least w → Works (settingOf f) (w .before) (w .after)
-  pub none-before : (w : Window) → v ≡ Least w → (b a : ℕ) → Works (settingOf f) b a → NoneBefore o w b a
+  pub no-later : (w : Window) → v ≡ Least w → (b a : ℕ) → Works (settingOf f) b a → NoLater o w b a
 
 pub record Demand3 : Type 0 where
   -- the search in a named order; the search that names none is the one in the default order

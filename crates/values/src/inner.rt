@@ -1,15 +1,8 @@
-// No public calls: the order of a call that names none, and the comparison of two windows.
+// No public calls: the comparison of two windows.
 ghost use mathlib.Core.Path.{_≡_};
-ghost use Rattle.values.specs.Order.{defaultOrder, inTurn, noLater, Compared};
+ghost use Rattle.values.specs.Order.{inTurn, noLater, Compared};
 use crate::Order;
 use crate::Window;
-
-// The order of a call that names none.
-pub fn default_order() -> Order
-    ensures { λ r. ⌜ r ≡ defaultOrder ⌝ }
-{
-    Order::LeastLookahead
-}
 
 // Whether x is below x2 or, where they are equal, y is at most y2.
 fn in_turn(x: usize, y: usize, x2: usize, y2: usize) -> bool

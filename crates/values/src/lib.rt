@@ -1,5 +1,5 @@
 // What the calls are given and give: a window, an order of windows, a looped pair.
-pub mod inner; // inner.rt: the order of a call that names none, and the comparison of two windows; no public calls
+pub mod inner; // inner.rt: the comparison of two windows; no public calls
 
 // A window: how many letters before the present one and after it.
 pub struct Window {
@@ -12,6 +12,11 @@ pub struct Window {
 pub enum Order {
     LeastLookahead,
     FewestLetters,
+}
+
+impl Order {
+    // The order of a call that names none.
+    pub const DEFAULT: Order = Order::LeastLookahead;
 }
 
 // Starts and lengths of a looped pair; its letters lie in a lent buffer.

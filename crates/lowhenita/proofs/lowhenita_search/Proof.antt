@@ -34,14 +34,11 @@ accepted c =
     let a = c .before .before .before .before .before .before .args in
     accepted-search (now (a .file)) (now (a .letters)) (now (a .result)) (via (told (c .before)) (c .if1 .left))
 
-default-order-requires : tie.Need-default-order-requires
-default-order-requires c κs = search needs
-
 checked-requires : tie.Need-checked-requires
-checked-requires c κs = accepted (c .before .before) .asked
+checked-requires c κs = accepted (c .before) .asked
 
 put-verdict-requires : tie.Need-put-verdict-requires
-put-verdict-requires c κs = accepted (c .before .before .before .before .before .before) .room
+put-verdict-requires c κs = accepted (c .before .before .before .before .before) .room
 
 same-length : tie.Need-same-length
 same-length c = search needs
@@ -52,11 +49,10 @@ same-length-2 c = search needs
 returns-2 : tie.Need-returns-2
 returns-2 c =
     let v = c .before .before .before .before .before .before in
-    let d = v .before .before in
-    let e = d .before in
+    let e = v .before .before in
     hosted-done (via (told (e .before)) (e .if1 .left)) (record {
       verdict = v .checked .result;
-      says = rw (d .default-order .ensures) at (v .checked .ensures);
+      says = v .checked .ensures;
       fields = c .before .before .put-verdict .ensures;
     })
 
@@ -67,7 +63,6 @@ lowhenita-search-spec =
     both-fit-requires
     refusal-requires
     returns
-    default-order-requires
     checked-requires
     put-verdict-requires
     same-length

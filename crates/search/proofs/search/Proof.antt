@@ -3,9 +3,6 @@ use borrow.Author.Needs.{needs}
 use Rattle.search.proofs.search.Statement.{statement}
 use Rattle.search.proofs.search.Tie as tie
 
-default-order-requires : tie.Need-default-order-requires
-default-order-requires c κs = search needs
-
 search-in-order-requires : tie.Need-search-in-order-requires
 search-in-order-requires c κs = search needs
 
@@ -13,10 +10,7 @@ same-length : tie.Need-same-length
 same-length c = search needs
 
 returns : tie.Need-returns
-returns c =
-    let s = c .before .before in
-    let d = s .before .before in
-    rw (d .default-order .ensures) at (s .search-in-order .ensures)
+returns c = c .before .before .search-in-order .ensures
 
 pub search-spec : {M : Type 1} → statement M
-search-spec = tie.close (tie.spec default-order-requires search-in-order-requires same-length returns)
+search-spec = tie.close (tie.spec search-in-order-requires same-length returns)
