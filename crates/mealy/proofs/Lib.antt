@@ -23,6 +23,7 @@ pub mod Places
 pub mod Pigeonhole
 pub mod SameSettings
 pub mod PairBytes
+pub mod FirstPairs
 pub mod Words
 pub mod Members
 pub mod Images

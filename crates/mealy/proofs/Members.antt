@@ -1,16 +1,16 @@
 -- The members of a set one after the other: the least one, by the zeros below it, the word without it, and unions over all members.
 use mathlib.Core.Path.{_≡_, refl, sym, ap, subst, _∙_}
 use mathlib.Core.Logic.{_≢_, _⊎_, inl, inr, ⊎-elim}
-use Prim.Native.Nat.{ℕ, zero, suc, _-_, _*_, _+_, _/_, _%_, _^_, _<_}
+use Prim.Native.Nat.{ℕ, zero, suc, _-_, _*_, _/_, _%_, _^_, _<_}
 use native.Mathlib.Decide.{ℕ-discrete, decLt}
 use native.Mathlib.Nat.{pow-suc, div-eq-of-lt, lt-of-lt-of-le}
 use native.Mathlib.Omega.{arith}
 use lib.Bits.{bitAnd, bitOr, and-step, and-self}
 use lib.Count.{trailingZeros}
-use lib.Pow.{shr-shr, pow-mono}
+use lib.Pow.{pow-mono}
 use Rattle.mealy.specs.Word.{Has, Holds}
 use Rattle.mealy.specs.Image.{Image}
-use Rattle.mealy.proofs.Words.{holds-map, holds-none, holds-union, has-empty}
+use Rattle.mealy.proofs.Words.{holds-map, holds-none, holds-union, has-empty, halved}
 
 -- x is in the set of the word u, and v is the word of the others
 pub record Taken (u x v : ℕ) : Type 0 where
@@ -19,10 +19,6 @@ pub record Taken (u x v : ℕ) : Type 0 where
   pub others : (y : ℕ) → Has u y → y ≢ x → Has v y
   pub was : (y : ℕ) → Has v y → Has u y
   pub other : (y : ℕ) → Has v y → y ≢ x
-
--- bit y + 1 is bit y of the half
-halved : (u y : ℕ) → u / 2 / 2 ^ y ≡ u / 2 ^ suc y
-halved u y = let e : 1 + y ≡ suc y = omega arith in rw e at (shr-shr u 1 y)
 
 has-half : (u y : ℕ) → Has u (suc y) → Has (u / 2) y
 has-half u y h = ap (λ n. n % 2) (halved u y) ∙ h

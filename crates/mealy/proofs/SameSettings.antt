@@ -9,6 +9,7 @@ use Rattle.mealy.specs.Window.{Works}
 use Rattle.mealy.specs.Order.{Relation, Least}
 use Rattle.mealy.specs.Answer.{Fits, Answer, letter, none, several, Answers}
 use Rattle.mealy.proofs.Letters.{letter-at}
+use Rattle.mealy.specs.First.{First}
 use Rattle.mealy.specs.LoopedPair.{LoopedPair, Run, first, second, letterAt, lettersFrom, mark, letters, Valid}
 
 -- the letters of a pair are input letters
@@ -105,6 +106,10 @@ module _ {S T : Setting} (e : Same S T) where
         works = works-same e b a (l .works);
         least = λ b′ a′ f. l .least b′ a′ (works-same (same-sym e) b′ a′ f);
       }
+
+  pub first-same : (p : LoopedPair) → First S p → First T p
+  first-same p f =
+      record { valid = valid-same e p (f .valid); first = λ q v. f .first q (valid-same (same-sym e) q v) }
 
   pub answers-same : (w : List ℕ) (b : ℕ) (v : Answer) → Answers S w b v → Answers T w b v
   answers-same w b (letter x) h =

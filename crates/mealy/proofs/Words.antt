@@ -1,13 +1,13 @@
--- Words that hold sets: the empty set, one number, unions, the greatest number.
+-- Words that hold sets: the empty set, one number, unions, intersections, complements, the greatest number.
 use mathlib.Core.Path.{_≡_, refl, sym, ap, _∙_}
-use mathlib.Core.Logic.{_⊎_, inl, inr, ⊎-elim}
-use Prim.Native.Nat.{ℕ, zero, suc, _+_, _-_, _*_, _/_, _%_, _^_, _<_, _≤_, max}
+use mathlib.Core.Logic.{_⊎_, _≢_, inl, inr, ⊎-elim}
+use Prim.Native.Nat.{ℕ, zero, suc, _+_, _-_, _*_, _/_, _%_, _^_, _<_, _≤_, max, min}
 use native.Mathlib.Decide.{ℕ-discrete, decLt}
 use native.Mathlib.Nat.{le-refl, max-comm, zero-max, pow-suc, one-mul, div-eq-of-lt, div-eq-of-lt-le, div-eq-of-eq-mul-left}
 use native.Mathlib.Omega.{arith}
-use lib.Bits.{bitOr, or-step, or-shr, or-lt, or-shifted}
+use lib.Bits.{bitOr, bitAnd, or-step, or-shr, or-lt, or-shifted, and-step, and-shr}
 use lib.Count.{leadingZeros, leading-le, leading-top}
-use lib.Pow.{pow-pos, pow-lt, pow-add, shl-exact}
+use lib.Pow.{pow-pos, pow-lt, pow-add, shl-exact, shr-shr}
 use lib.Dec.{lit<}
 use Rattle.mealy.specs.Word.{Has, Holds}
 
@@ -148,3 +148,54 @@ module _ {P Q : ℕ → Type 0} where
         has = λ x. ⊎-elim (λ p. has-left u v x (a .has x p)) (λ q. has-right u v x (b .has x q));
         only = λ x l h. ⊎-elim (λ e. inl (a .only x l e)) (λ e. inr (b .only x l e)) (has-or u v x h);
       }
+
+-- ---- intersections and complements
+
+one-min : (b : ℕ) → b < 2 → min 1 b ≡ b
+one-min zero l = refl
+one-min (suc zero) l = refl
+one-min (suc (suc b)) l = absurd (omega arith)
+
+min-bit : (a b : ℕ) → a < 2 → b < 2 → min a b < 2
+min-bit zero b k l = omega arith
+min-bit (suc zero) b k l = rw (one-min b l) l
+min-bit (suc (suc a)) b k l = absurd (omega arith)
+
+both-bits : (a b : ℕ) → a < 2 → b < 2 → min a b ≡ 1 → (a ≡ 1) × (b ≡ 1)
+both-bits zero b k l e = absurd (omega arith)
+both-bits (suc zero) b k l e = (refl, sym (one-min b l) ∙ e)
+both-bits (suc (suc a)) b k l e = absurd (omega arith)
+
+-- the intersection's bits
+and-bit : (u v x : ℕ) → bitAnd u v / 2 ^ x % 2 ≡ min (u / 2 ^ x % 2) (v / 2 ^ x % 2)
+and-bit u v x =
+    let a = u / 2 ^ x in
+    let b = v / 2 ^ x in
+    ap (λ n. n % 2) (and-shr u v x ∙ and-step a b) ∙
+    low-bit (bitAnd (a / 2) (b / 2)) (min (a % 2) (b % 2)) (min-bit (a % 2) (b % 2) (omega arith) (omega arith))
+
+pub has-both : (u v x : ℕ) → Has u x → Has v x → Has (bitAnd u v) x
+has-both u v x h k = and-bit u v x ∙ rw (h, k) refl
+
+pub has-and : (u v x : ℕ) → Has (bitAnd u v) x → Has u x × Has v x
+has-and u v x h = both-bits (u / 2 ^ x % 2) (v / 2 ^ x % 2) (omega arith) (omega arith) (sym (and-bit u v x) ∙ h)
+
+-- bit y + 1 is bit y of the half
+pub halved : (u y : ℕ) → u / 2 / 2 ^ y ≡ u / 2 ^ suc y
+halved u y = let e : 1 + y ≡ suc y = omega arith in rw e at (shr-shr u 1 y)
+
+-- of two words that have together all n bits, one or the other has bit x
+complement-bit : (n x u v : ℕ) → x < n → u + v + 1 ≡ 2 ^ n → u / 2 ^ x % 2 + v / 2 ^ x % 2 ≡ 1
+complement-bit zero x u v l e = absurd (omega arith)
+complement-bit (suc n) zero u v l e = omega (arith, pow-suc 2 n)
+complement-bit (suc n) (suc x) u v l e =
+    rw (← halved u x, ← halved v x) (complement-bit n x (u / 2) (v / 2) (omega arith) (omega (arith, pow-suc 2 n)))
+
+pub has-not : (v x : ℕ) → v < 65536 → x < 16 → (Has v x → ⊥) → Has (65535 - v) x
+has-not v x b l n =
+    let e = complement-bit 16 x (65535 - v) v l (omega arith) in
+    let z : v / 2 ^ x % 2 ≡ 0 = let m : v / 2 ^ x % 2 ≢ 1 = n in omega arith in
+    omega arith
+
+pub not-has : (v x : ℕ) → v < 65536 → x < 16 → Has (65535 - v) x → Has v x → ⊥
+not-has v x b l h k = let e = complement-bit 16 x (65535 - v) v l (omega arith) in omega arith

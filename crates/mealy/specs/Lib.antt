@@ -8,5 +8,6 @@ pub mod Answer
 pub mod Index
 pub mod Product
 pub mod LoopedPair
+pub mod First
 pub mod Walk
 pub mod Image

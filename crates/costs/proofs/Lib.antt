@@ -1,0 +1,4 @@
+-- Laws that other crates cite.
+pub mod Settling
+pub mod ConflictCosts
+pub mod FirstStarts

@@ -1,0 +1,4 @@
+-- What the contracts of least costs cite.
+pub mod Settle
+pub mod Marked
+pub mod Starts

@@ -1,0 +1,24 @@
+-- The pair of start states with the fewest letters in all, of these the first.
+use Prim.Native.Nat.{ℕ, _+_, _*_, _/_, _%_, _≤_, _<_}
+use mathlib.Core.Path.{_≡_}
+use mathlib.Core.List.{List}
+use lib.ListN.{getD}
+use Rattle.mealy.specs.Word.{Has}
+use Rattle.first_pair.specs.Cost.{letter}
+
+-- the letters in all of the pair a: those of the back loop, and those after it
+abbrev pub totalOf : List ℕ → List ℕ → ℕ → ℕ
+totalOf loops heads a = (getD loops a 0 + getD heads a 0) / letter
+
+-- both states of the pair a are start states
+pub record StartPair (states starts a : ℕ) : Type 0 where
+  pub below₁ : a / 16 < states
+  pub below₂ : a % 16 < states
+  pub start₁ : Has starts (a / 16)
+  pub start₂ : Has starts (a % 16)
+
+-- a has the fewest letters of all pairs of start states, and no earlier one has as few
+pub record FirstStart (states starts : ℕ) (loops heads : List ℕ) (a : ℕ) : Type 0 where
+  pub start : StartPair states starts a
+  pub fewest : (b : ℕ) → StartPair states starts b → totalOf loops heads a ≤ totalOf loops heads b
+  pub first : (b : ℕ) → StartPair states starts b → totalOf loops heads b ≡ totalOf loops heads a → a ≤ b

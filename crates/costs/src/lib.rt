@@ -1,0 +1,2 @@
+// Least costs of walks of the product machine.
+pub mod inner; // inner.rt: what the crates above call; no public calls

@@ -1,0 +1,2 @@
+-- What the contracts of lowest letters cite.
+pub mod Walk
