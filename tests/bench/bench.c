@@ -11,7 +11,7 @@
 #include <string.h>
 #include <time.h>
 
-enum { TURNS = 15, LETTERS = 20000, TABLE = 65536 };
+enum { TURNS = 15, LETTERS = 20000, TABLE = 65536, CODERS = 200 };
 
 static coder_file file;
 static uint8_t input[LETTERS], sent[LETTERS], mine[TABLE], theirs[TABLE];
@@ -124,24 +124,39 @@ static void compare(const char *name, size_t (*library)(void), size_t (*plain)(v
     fflush(stdout);
 }
 
-static void bench_search(const char *name)
+static size_t pair_letters(void)
 {
+    return verdict.back_loop + verdict.lead_in + 1 + verdict.lead_out + verdict.forward_loop;
+}
+
+/* Both find the same window, or the same looped pair with the same letters. */
+static void same_search(const char *name)
+{
+    size_t k;
+
     if (do_search() != 0 || do_plain_search() != 0 || field(0) != (uint64_t)verdict.is_pair)
         unequal(name);
-    if (!verdict.is_pair && (field(1) != verdict.before || field(2) != verdict.after))
-        unequal(name);
     if (verdict.is_pair) {
-        size_t n = 2 * (verdict.back_loop + verdict.lead_in + 1 + verdict.lead_out + verdict.forward_loop);
+        const size_t numbers[6] = {verdict.s, verdict.t, verdict.back_loop, verdict.lead_in,
+                                   verdict.lead_out, verdict.forward_loop};
 
-        printf("  (pairs of %lu and %lu letters)\n",
-               (unsigned long)(field(3) + field(4) + 1 + field(5) + field(6)), (unsigned long)n / 2);
-        if (lowhenita_check(file.bytes, file.len, verdict.s, verdict.t, verdict.back_loop, verdict.lead_in,
-                            verdict.lead_out, verdict.forward_loop, their_letters, n, result,
-                            sizeof result) != 0 || field(0) != 1)
+        for (k = 0; k < 6; k++)
+            if (field((int)k + 1) != numbers[k])
+                unequal(name);
+        if (memcmp(my_letters, their_letters, 2 * pair_letters()) != 0)
             unequal(name);
-    } else {
-        printf("  (window %lu %lu)\n", (unsigned long)verdict.before, (unsigned long)verdict.after);
+    } else if (field(1) != verdict.before || field(2) != verdict.after) {
+        unequal(name);
     }
+}
+
+static void bench_search(const char *name)
+{
+    same_search(name);
+    if (verdict.is_pair)
+        printf("  (pair of %lu letters)\n", (unsigned long)pair_letters());
+    else
+        printf("  (window %lu %lu)\n", (unsigned long)verdict.before, (unsigned long)verdict.after);
     compare(name, do_search, do_plain_search, 0);
 }
 
@@ -216,6 +231,46 @@ static void any_coder(size_t states, size_t inputs, size_t outputs)
     }
 }
 
+/* Random coders without a decoder: the mean time of a search, each the least of several, and the longest
+   search of the library. */
+static void bench_pairs(size_t states, size_t inputs, size_t outputs)
+{
+    double l, p, x, library = 0, plain = 0, longest = 0;
+    char name[80];
+    int k, turn;
+
+    sprintf(name, "search: %d coders without a decoder, %lu %lu %lu", CODERS, (unsigned long)states,
+            (unsigned long)inputs, (unsigned long)outputs);
+    for (k = 0; k < CODERS; k++) {
+        do {
+            any_coder(states, inputs, outputs);
+            same_search(name);
+        } while (!verdict.is_pair);
+        for (turn = 0, l = p = 1e9; turn < TURNS; turn++) {
+            x = timed(do_search, 1);
+            l = x < l ? x : l;
+            x = timed(do_plain_search, 1);
+            p = x < p ? x : p;
+        }
+        library += l;
+        plain += p;
+        longest = l > longest ? l : longest;
+    }
+    printf("%-58s %10.2f us %10.2f us %12s   ratio %.2f   longest %.2f us\n", name, library / CODERS * 1e6,
+           plain / CODERS * 1e6, "", library / plain, longest * 1e6);
+    fflush(stdout);
+}
+
+static void bench_all_pairs(void)
+{
+    static const size_t counts[][3] = {{4, 4, 2}, {8, 8, 4}, {12, 16, 8}, {16, 16, 1}, {16, 16, 4}, {16, 4, 2},
+                                       {16, 16, 32}};
+    size_t k;
+
+    for (k = 0; k < sizeof counts / sizeof *counts; k++)
+        bench_pairs(counts[k][0], counts[k][1], counts[k][2]);
+}
+
 static void example_a(void)
 {
     example e;
@@ -251,6 +306,8 @@ int main(void)
     bench_search("search: chain, 16 states, the orders differ");
     make_closed_both(&file, 16, 13);
     bench_search("search: closed chain, 16 states, long looped pair");
+    make_closed_both(&file, 16, 14);
+    bench_search("search: closed chain, 16 states, longest looped pair");
 
     example_a();
     bench_run("run: A, 20,000 letters");
@@ -264,5 +321,6 @@ int main(void)
     any_coder(16, 16, 4);
     bench_strings("16 states, 16 inputs, 4 outputs");
     bench_table("table: 16 states, 16 inputs, 4 outputs, 65,536 bytes", 4, 3);
+    bench_all_pairs();
     return 0;
 }

@@ -304,73 +304,227 @@ static void depths(const coder *c, const uint8_t *near, const uint8_t *far, uint
                 depth[s][t] = ENDLESS;
 }
 
-/* Two entries with equal outputs from (back: to) the pair, with their other ends endless. */
-static void endless_edge(const coder *c, const uint8_t *near, const uint8_t *far,
-                         uint8_t depth[16][16], size_t s, size_t t, size_t *x, size_t *y)
-{
-    size_t a, b, i, j;
+/* ---- the first looped pair ---- */
 
-    for (a = 0; a < c->states; a++)
-        for (i = 0; i < c->inputs; i++) {
-            *x = 16 * a + i;
-            if (near[*x] != s)
-                continue;
-            for (b = 0; b < c->states; b++)
-                for (j = 0; j < c->inputs; j++) {
-                    *y = 16 * b + j;
-                    if (near[*y] == t && c->out[*x] == c->out[*y] &&
-                        depth[far[*x]][far[*y]] == ENDLESS)
-                        return;
-                }
+/* Pair (u, v) of states has the number 16 u + v. A cost is LETTER for each letter, and besides LEAD_IN for
+   each of the lead-in and LEAD_OUT for each of the lead-out: the least cost has the fewest letters, of those the
+   shortest lead-in, of those the shortest lead-out. No loop has TOO_LONG letters. */
+enum { LEAD_OUT = 1, LEAD_IN = 1 << 10, LETTER = 1 << 20, TOO_LONG = 1 << 10 };
+
+/* next[p][x]: the states y to which equal outputs lead from pair p while they lead to x. */
+typedef struct product {
+    const coder *c;
+    sets d;
+    uint16_t next[256][16];
+} product;
+
+static void make_product(const coder *c, product *m)
+{
+    size_t u, v, i;
+
+    m->c = c;
+    make_sets(c, &m->d);
+    memset(m->next, 0, sizeof m->next);
+    for (u = 0; u < c->states; u++)
+        for (i = 0; i < c->inputs; i++)
+            for (v = 0; v < c->states; v++)
+                m->next[16 * u + v][c->next[16 * u + i]] |= m->d.to[c->out[16 * u + i]][v];
+}
+
+/* Joins to b all pairs to which the pairs of a lead. */
+static void lead_on(const product *m, const uint16_t a[16], uint16_t b[16])
+{
+    size_t x, y;
+    unsigned r;
+
+    for (x = 0; x < m->c->states; x++)
+        for (r = a[x]; r; r &= r - 1) {
+            const uint16_t *next = m->next[16 * x + (size_t)__builtin_ctz(r)];
+
+            for (y = 0; y < 16; y++)
+                b[y] |= next[y];
         }
 }
 
-/* Walks along endless pairs until one repeats: the letters walked, and how many before the loop. */
-static size_t walk(const coder *c, const uint8_t *near, const uint8_t *far, uint8_t depth[16][16],
-                   size_t *s, size_t *t, uint8_t (*walked)[2], size_t *lead)
+/* The letters of the shortest way from a pair back to it. */
+static size_t loop_length(const product *m, size_t u, size_t v)
 {
-    uint16_t seen[256];
-    size_t n = 0, x = 0, y = 0;
+    uint16_t front[16], seen[16], fresh[16];
+    size_t n, y;
+    unsigned some = 1;
 
-    memset(seen, 0xff, sizeof seen);
-    while (seen[16 * *s + *t] == 0xffff) {
-        seen[16 * *s + *t] = (uint16_t)n;
-        endless_edge(c, near, far, depth, *s, *t, &x, &y);
-        walked[n][0] = (uint8_t)(x % 16);
-        walked[n][1] = (uint8_t)(y % 16);
-        n++;
-        *s = far[x];
-        *t = far[y];
+    memcpy(front, m->next[16 * u + v], sizeof front);
+    memcpy(seen, front, sizeof seen);
+    for (n = 1; some; n++) {
+        if (front[u] >> v & 1)
+            return n;
+        memset(fresh, 0, sizeof fresh);
+        lead_on(m, front, fresh);
+        for (y = 0, some = 0; y < 16; y++) {
+            front[y] = (uint16_t)(fresh[y] & ~seen[y]);
+            seen[y] |= fresh[y];
+            some |= front[y];
+        }
     }
-    *lead = seen[16 * *s + *t];
-    return n;
+    return TOO_LONG;
 }
 
-static void find_pair(const coder *c, const uint8_t *source, uint8_t back[16][16],
-                      uint8_t forward[16][16], size_t x, size_t y, uint8_t *letters,
-                      plain_verdict *v)
+/* The loops of (u, v) and (v, u) are as long. */
+static void loop_lengths(const product *m, uint32_t length[256])
 {
-    uint8_t walked[256][2];
-    size_t n, k, lead, s = source[x], t = source[y];
+    size_t u, v;
 
-    v->is_pair = 1;
-    n = walk(c, c->next, source, back, &s, &t, walked, &lead);
-    v->s = s;
-    v->t = t;
-    v->back_loop = n - lead;
-    v->lead_in = lead;
-    for (k = 0; k < n; k++)
-        memcpy(letters + 2 * k, walked[n - 1 - k], 2);
-    letters += 2 * n;
-    letters[0] = (uint8_t)(x % 16);
-    letters[1] = (uint8_t)(y % 16);
-    s = c->next[x];
-    t = c->next[y];
-    n = walk(c, source, c->next, forward, &s, &t, walked, &lead);
-    v->lead_out = lead;
-    v->forward_loop = n - lead;
-    memcpy(letters + 2, walked, 2 * n);
+    for (u = 0; u < 256; u++)
+        length[u] = TOO_LONG;
+    for (u = 0; u < m->c->states; u++)
+        for (v = 0; v <= u; v++)
+            length[16 * u + v] = length[16 * v + u] = (uint32_t)loop_length(m, u, v);
 }
+
+/* The least cost among the pairs to which a pair leads. */
+static uint32_t least_next(const product *m, const uint32_t cost[256], size_t p)
+{
+    uint32_t least = TOO_LONG * LETTER;
+    size_t x;
+    unsigned r;
+
+    for (x = 0; x < m->c->states; x++)
+        for (r = m->next[p][x]; r; r &= r - 1) {
+            uint32_t q = cost[16 * x + (size_t)__builtin_ctz(r)];
+
+            if (q < least)
+                least = q;
+        }
+    return least;
+}
+
+/* Lowers the costs until no pair costs more than a pair to which it leads and the letter between. A cost that
+   is at most that of the cheapest pair and a letter cannot be lowered. */
+static void lower_costs(const product *m, uint32_t letter, uint32_t cost[256])
+{
+    uint32_t low = cost[0], q;
+    size_t p;
+    int changed = 1;
+
+    for (p = 1; p < 256; p++)
+        if (cost[p] < low)
+            low = cost[p];
+    while (changed)
+        for (p = 16 * m->c->states, changed = 0; p-- > 0;)
+            if (cost[p] > low + letter) {
+                q = least_next(m, cost, p) + letter;
+                if (q < cost[p]) {
+                    cost[p] = q;
+                    changed = 1;
+                }
+            }
+}
+
+/* The least cost of a differing letter and what comes after it. */
+static void differing_costs(const product *m, const uint32_t after[256], uint32_t cost[256])
+{
+    const coder *c = m->c;
+    size_t u, v, i;
+    unsigned r;
+
+    for (u = 0; u < 256; u++)
+        cost[u] = TOO_LONG * LETTER;
+    for (u = 0; u < c->states; u++)
+        for (i = 0; i < c->inputs; i++)
+            for (v = 0; v < c->states; v++)
+                for (r = m->d.letters[c->out[16 * u + i]][v] & ~(1u << i); r; r &= r - 1) {
+                    size_t j = (size_t)__builtin_ctz(r);
+                    uint32_t q = after[16 * c->next[16 * u + i] + c->next[16 * v + j]] + LETTER;
+
+                    if (q < cost[16 * u + v])
+                        cost[16 * u + v] = q;
+                }
+}
+
+/* The lowest two letters that lead from pair p to one of this cost, different where asked; the pair there. */
+static size_t lowest_letters(const product *m, const uint32_t cost[256], uint32_t wanted, int different,
+                             size_t p, uint8_t *letters)
+{
+    const coder *c = m->c;
+    size_t i, u = p / 16, v = p % 16;
+    unsigned r;
+
+    for (i = 0; i < c->inputs; i++) {
+        r = m->d.letters[c->out[16 * u + i]][v];
+        for (r &= different ? ~(1u << i) : ~0u; r; r &= r - 1) {
+            size_t j = (size_t)__builtin_ctz(r);
+            size_t q = 16 * (size_t)c->next[16 * u + i] + c->next[16 * v + j];
+
+            if (cost[q] == wanted) {
+                letters[0] = (uint8_t)i;
+                letters[1] = (uint8_t)j;
+                return q;
+            }
+        }
+    }
+    return p;
+}
+
+/* The lowest n letters along least costs. */
+static size_t lowest_way(const product *m, const uint32_t cost[256], uint32_t letter, size_t n, size_t p,
+                         uint8_t *letters)
+{
+    size_t k;
+
+    for (k = 0; k < n; k++)
+        p = lowest_letters(m, cost, cost[p] - letter, 0, p, letters + 2 * k);
+    return p;
+}
+
+/* The lowest letters of a shortest loop: the costs are the letters from each pair to its start. */
+static void lowest_loop(const product *m, size_t start, size_t n, uint8_t *letters)
+{
+    uint32_t cost[256];
+    size_t p;
+
+    for (p = 0; p < 256; p++)
+        cost[p] = TOO_LONG;
+    cost[start] = 0;
+    lower_costs(m, 1, cost);
+    p = lowest_letters(m, cost, (uint32_t)n - 1, 0, start, letters);
+    lowest_way(m, cost, 1, n - 1, p, letters + 2);
+}
+
+/* The costs from each pair on: from the lead-out, with the differing letter next, from the lead-in. */
+static void find_pair(const coder *c, uint8_t *letters, plain_verdict *v)
+{
+    product m;
+    uint32_t loop[256], after[256], whole[256];
+    size_t p, start = 0;
+
+    make_product(c, &m);
+    loop_lengths(&m, loop);
+    for (p = 0; p < 256; p++)
+        after[p] = loop[p] * LETTER;
+    lower_costs(&m, LETTER + LEAD_OUT, after);
+    differing_costs(&m, after, whole);
+    lower_costs(&m, LETTER + LEAD_IN, whole);
+    for (p = 1; p < 16 * c->states; p++)
+        if (loop[p] + whole[p] / LETTER < loop[start] + whole[start] / LETTER)
+            start = p;
+    v->is_pair = 1;
+    v->s = start / 16;
+    v->t = start % 16;
+    v->back_loop = loop[start];
+    v->lead_in = whole[start] % LETTER / LEAD_IN;
+    v->lead_out = whole[start] % LEAD_IN;
+    v->forward_loop = whole[start] / LETTER - v->lead_in - 1 - v->lead_out;
+    lowest_loop(&m, start, v->back_loop, letters);
+    letters += 2 * v->back_loop;
+    p = lowest_way(&m, whole, LETTER + LEAD_IN, v->lead_in, start, letters);
+    letters += 2 * v->lead_in;
+    p = lowest_letters(&m, after, whole[p] - LETTER, 1, p, letters);
+    p = lowest_way(&m, after, LETTER + LEAD_OUT, v->lead_out, p, letters + 2);
+    letters += 2 + 2 * v->lead_out;
+    lowest_loop(&m, p, v->forward_loop, letters);
+}
+
+/* ---- window or pair ---- */
 
 size_t plain_search(const uint8_t *file, size_t file_len, uint8_t *letters, size_t letters_len,
                     plain_verdict *v)
@@ -402,7 +556,7 @@ size_t plain_search(const uint8_t *file, size_t file_len, uint8_t *letters, size
                         continue;
                     f = forward[c.next[x]][c.next[y]];
                     if (b == ENDLESS && f == ENDLESS) {
-                        find_pair(&c, source, back, forward, x, y, letters, v);
+                        find_pair(&c, letters, v);
                         return 0;
                     }
                     if (worst[f] < b)

@@ -15,7 +15,7 @@ size_t plain_decode(const uint8_t *file, size_t file_len, size_t before, size_t 
 size_t plain_table(const uint8_t *file, size_t file_len, size_t before, size_t after,
                    uint8_t *table, size_t table_len, size_t *count);
 
-/* The verdict: a window, or a looped pair with its letters in the lent buffer. */
+/* The verdict: a window, or the first looped pair with its letters in the lent buffer. */
 typedef struct plain_verdict {
     int is_pair;
     size_t before, after;

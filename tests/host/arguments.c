@@ -158,8 +158,7 @@ static void random_pair(arguments *a, const coder *c)
         a->pair.lead_in = random_below(3);
         a->pair.lead_out = random_below(3);
         a->pair.forward_loop = random_below(4);
-        n = 2 * (a->pair.back_loop + a->pair.lead_in + 1 + a->pair.lead_out
-                 + a->pair.forward_loop);
+        n = 2 * pair_letters(&a->pair);
         random_letters(n, c->inputs);
     }
     a->bytes_len = n;

@@ -27,6 +27,26 @@ void known_search(const coder_file *f, int is_pair, size_t before, size_t after)
     known_value("the window's after", found->after, after);
 }
 
+void known_pair(const size_t numbers[6])
+{
+    const pair *p = &found->pair;
+
+    if (!found->known || !found->is_pair)
+        return;
+    known_value("the pair's s", p->s, numbers[0]);
+    known_value("the pair's t", p->t, numbers[1]);
+    known_value("the back loop", p->back_loop, numbers[2]);
+    known_value("the lead-in", p->lead_in, numbers[3]);
+    known_value("the lead-out", p->lead_out, numbers[4]);
+    known_value("the forward loop", p->forward_loop, numbers[5]);
+}
+
+void known_letters(const uint8_t *letters, size_t len)
+{
+    if (found->known && found->is_pair)
+        known_value("the letters' order", (size_t)memcmp(found->bytes, letters, len), 0);
+}
+
 void compare_random(enum call call, const coder_file *f)
 {
     arguments a = random_arguments(call, f);
@@ -157,8 +177,7 @@ void all_tables(const coder_file *f, size_t most)
 
 static void all_letters_of_pair(arguments *a, const coder *c)
 {
-    size_t letters = a->pair.back_loop + a->pair.lead_in + 1 + a->pair.lead_out
-        + a->pair.forward_loop, k;
+    size_t letters = pair_letters(&a->pair), k;
 
     a->bytes_len = 2 * letters;
     for (k = 0; k < power(c->inputs, 2 * letters); k++) {

@@ -26,6 +26,10 @@ arguments random_arguments(enum call call, const coder_file *f);
 void search(const coder_file *f);
 void known_search(const coder_file *f, int is_pair, size_t before, size_t after);
 
+/* Of the pair of the latest search s, t and the four lengths; the first bytes of its letters. */
+void known_pair(const size_t numbers[6]);
+void known_letters(const uint8_t *letters, size_t len);
+
 /* A run decoded with the window found gives its own letters back; the enumerator is not asked. */
 void round_trip(const coder_file *f);
 

@@ -96,31 +96,55 @@ static void put_call(enum order order, size_t lent)
     now.cases++;
 }
 
-/* The lent buffer as it was before the call: no bytes, or at least two. */
-static void put_buffer(size_t lent)
+static void put_run(unsigned byte, size_t n)
 {
-    if (lent == 0)
-        put(", buffer -\n");
-    else
-        put(", buffer %d*%zu\n", BEFORE_CALL, lent);
+    if (n == 1)
+        put(" %u", byte);
+    if (n > 1)
+        put(" %u*%zu", byte, n);
+}
+
+/* The lent buffer: these bytes at its front, all of them letters, and the rest as it was before the
+   call. */
+static void put_buffer(size_t lent, const uint8_t *bytes, size_t len)
+{
+    size_t k, n;
+
+    put(lent > 0 ? ", buffer" : ", buffer -");
+    for (k = 0; k < len; k += n) {
+        n = 1;
+        while (k + n < len && bytes[k + n] == bytes[k])
+            n++;
+        put_run(bytes[k], n);
+    }
+    put_run(BEFORE_CALL, lent - len);
+    put("\n");
 }
 
 void text_refusal(enum order order, size_t lent, size_t number)
 {
     put_call(order, lent);
     put("refused %zu", number);
-    put_buffer(lent);
+    put_buffer(lent, NULL, 0);
 }
 
-void text_answer(enum order order, size_t lent, const least *window)
+static void put_pair(size_t lent, const pair *p)
 {
+    put("no decoder %zu %zu %zu %zu %zu %zu", p->s, p->t, p->back_loop, p->lead_in, p->lead_out,
+        p->forward_loop);
+    put_buffer(lent, p->letters, 2 * pair_letters(p));
+}
+
+void text_answer(enum order order, size_t lent, const least *window, const first_pair *first)
+{
+    known_value("whether there is a looped pair", first->exists, window->works == NO ? YES : NO);
     put_call(order, lent);
-    if (window->works == NO) {
-        put("no decoder, checked, within bounds, rest kept\n");
+    if (first->exists == YES) {
+        put_pair(lent, &first->pair);
         return;
     }
     put("window %zu %zu", window->before, window->after);
-    put_buffer(lent);
+    put_buffer(lent, NULL, 0);
 }
 
 void close_texts(void)

@@ -12,10 +12,10 @@ void open_texts(const char *folder);
 /* The coder file of the cases after it; it stands in one text with them. */
 void text_file(const uint8_t *file, size_t len);
 
-/* The search in this order, lent so many bytes, and what it gives: a refusal, or the first window
-   that works or that there is none; known to work or not. */
+/* The search in this order, lent so many bytes, and what it gives: a refusal; or the first window
+   that works; or, where it is known that none works, the first looped pair. */
 void text_refusal(enum order order, size_t lent, size_t number);
-void text_answer(enum order order, size_t lent, const least *window);
+void text_answer(enum order order, size_t lent, const least *window, const first_pair *first);
 
 /* Ends the last text and writes the list; nothing is written after it. */
 void close_texts(void);

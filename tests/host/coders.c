@@ -56,18 +56,20 @@ typedef struct example_row {
     uint8_t counts[3];
     uint8_t entries[16];
     int pair;
-    size_t before, after, fewest_before, fewest_after;
+    size_t windows[4];
+    size_t first[6];
+    uint8_t letters[6];
 } example_row;
 
 static const example_row rows[EXAMPLES] = {
-    {'A', {2, 2, 2}, {0, 0, 1, 1, 1, 1, 0, 0}, 0, 1, 0, 1, 0},
-    {'B', {1, 2, 2}, {0, 0, 0, 1}, 0, 0, 0, 0, 0},
-    {'C', {1, 2, 1}, {0, 0, 0, 0}, 1, 0, 0, 0, 0},
-    {'D', {2, 2, 2}, {0, 0, 1, 0, 0, 1, 1, 1}, 0, 0, 1, 0, 1},
-    {'E', {2, 2, 2}, {0, 0, 1, 1, 0, 1, 1, 0}, 1, 0, 0, 0, 0},
-    {'F', {3, 2, 4}, {1, 0, 2, 0, 1, 0, 1, 1, 2, 2, 2, 3}, 0, 1, 0, 1, 0},
-    {'G', {4, 2, 6}, {1, 4, 1, 5, 2, 0, 3, 0, 2, 0, 2, 1, 3, 2, 3, 3}, 0, 2, 0, 0, 1},
-    {'H', {2, 2, 2}, {0, 0, 0, 1, 1, 0, 1, 0}, 1, 0, 0, 0, 0}
+    {'A', {2, 2, 2}, {0, 0, 1, 1, 1, 1, 0, 0}, 0, {1, 0, 1, 0}, {0}, {0}},
+    {'B', {1, 2, 2}, {0, 0, 0, 1}, 0, {0, 0, 0, 0}, {0}, {0}},
+    {'C', {1, 2, 1}, {0, 0, 0, 0}, 1, {0}, {0, 0, 1, 0, 0, 1}, {0, 0, 0, 1, 0, 0}},
+    {'D', {2, 2, 2}, {0, 0, 1, 0, 0, 1, 1, 1}, 0, {0, 1, 0, 1}, {0}, {0}},
+    {'E', {2, 2, 2}, {0, 0, 1, 1, 0, 1, 1, 0}, 1, {0}, {0, 1, 1, 0, 0, 1}, {0, 1, 0, 1, 0, 1}},
+    {'F', {3, 2, 4}, {1, 0, 2, 0, 1, 0, 1, 1, 2, 2, 2, 3}, 0, {1, 0, 1, 0}, {0}, {0}},
+    {'G', {4, 2, 6}, {1, 4, 1, 5, 2, 0, 3, 0, 2, 0, 2, 1, 3, 2, 3, 3}, 0, {2, 0, 0, 1}, {0}, {0}},
+    {'H', {2, 2, 2}, {0, 0, 0, 1, 1, 0, 1, 0}, 1, {0}, {0, 1, 1, 0, 0, 1}, {0, 0, 0, 1, 0, 0}}
 };
 
 void make_example(size_t k, example *e)
@@ -76,10 +78,12 @@ void make_example(size_t k, example *e)
 
     e->name = r->name;
     e->pair = r->pair;
-    e->before = r->before;
-    e->after = r->after;
-    e->fewest_before = r->fewest_before;
-    e->fewest_after = r->fewest_after;
+    e->before = r->windows[0];
+    e->after = r->windows[1];
+    e->fewest_before = r->windows[2];
+    e->fewest_after = r->windows[3];
+    memcpy(e->first, r->first, sizeof e->first);
+    memcpy(e->letters, r->letters, sizeof e->letters);
     begin_file(&e->file, r->counts[0], r->counts[1], r->counts[2]);
     memcpy(e->file.bytes + 6, r->entries, e->file.len - 6);
 }

@@ -17,13 +17,16 @@ typedef struct coder_file {
 void random_seed(uint64_t seed);
 size_t random_below(size_t limit);
 
-/* An example coder with what is known of it; pair: no decoder. The window with least lookahead, and
-   the one with fewest letters. */
+/* An example coder with what is known of it. Pair 0: the window with least lookahead, and the one
+   with fewest letters. Pair 1: no decoder; of the first looped pair s, t, the lengths of back loop,
+   lead-in, lead-out and forward loop, and the letters. */
 typedef struct example {
     char name;
     coder_file file;
     int pair;
     size_t before, after, fewest_before, fewest_after;
+    size_t first[6];
+    uint8_t letters[6];
 } example;
 
 enum { EXAMPLES = 8 };

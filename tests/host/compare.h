@@ -9,6 +9,7 @@ enum {
     NUMBERS = 14,          /* what a call returns: 0 and the refusals 1 to 13 */
     MOST_RUNS = 30000,     /* runs grouped by output string for one length of window */
     PAIR_STEPS = 20000,    /* steps for one window by pairs of runs */
+    FIRST_STEPS = 100000,  /* steps for one first pair of a small coder by trying */
     ANSWER_STEPS = 400000  /* steps for one expected answer */
 };
 
@@ -18,6 +19,7 @@ typedef struct counts {
     unsigned long coders, comparisons;
     unsigned long decoders, longest_window, pairs, longest_pair;
     unsigned long windows, windows_left, refuted, answers_left;
+    unsigned long firsts, firsts_left;
     unsigned long cases, cases_left, two_windows;
     unsigned long wanted[CALLS][NUMBERS];
 } counts;
@@ -46,7 +48,6 @@ void known_value(const char *what, size_t got, size_t wanted);
 void catch_signals(void);
 
 const char *call_name(enum call call);
-void print_bytes(const char *name, const uint8_t *bytes, size_t len);
 
 /* ---- compare.c ---- */
 
@@ -68,11 +69,32 @@ void compare_known(const arguments *a, const uint8_t *bytes, size_t count);
 
 /* ---- trying.c ---- */
 
+/* A coder that is kept, to know whether another one comes. */
+typedef struct kept_coder {
+    size_t states, inputs, outputs;
+    uint8_t entries[2 * MOST_STATES * MOST_INPUTS];
+} kept_coder;
+
+/* Whether the coder is another than the one kept; it is kept then. */
+int another_coder(kept_coder *kept, const coder *c);
+
 /* The bound of a side of a window that is reported: N (N + 1) / 2. */
 size_t side_bound(const coder *c);
 
 /* Whether the window fails. */
 enum answer window_fails(const coder *c, size_t before, size_t after);
+
+/* ---- first_pairs.c ---- */
+
+/* The first looped pair of a coder, by exact numbers of letters. */
+const first_pair *first_pair_of(const coder *c);
+
+/* The same by trying, within so many steps, compared with it. */
+void try_first_pair(const coder *c, long steps);
+
+/* Whether two pairs have the same s, t and lengths; and with these the same letters. */
+int same_numbers(const pair *one, const pair *other);
+int same_letters(const pair *one, const pair *other);
 
 /* ---- verdict.c ---- */
 
@@ -89,10 +111,11 @@ extern const verdict *const found;
 void forget_verdict(void);
 
 /* What is tried besides the verdict itself: where there is a window, the windows that come before
-   it; where there is none, all windows up to the bound, and the same by following the pair. */
-void try_verdicts(int smaller, int all, int refute);
+   it; where there is none, all windows up to the bound, the same by following the pair, and the
+   first pair by trying, within so many steps. */
+void try_verdicts(int smaller, int all, int refute, long first);
 
-/* Judges the verdict and puts what it may write into the wanted buffers. */
+/* Judges the verdict and puts what it has to write into the wanted buffers. */
 void judge_search(const arguments *a, const uint8_t *lent, const uint8_t *result,
                   uint8_t *wanted_lent, uint8_t *wanted_result);
 

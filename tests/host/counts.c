@@ -40,6 +40,8 @@ void end_group(void)
         printf(", %lu pairs found (up to %lu letters)", now.pairs, now.longest_pair);
     if (now.windows)
         printf(", %lu windows tried, %lu left out", now.windows, now.windows_left);
+    if (now.firsts || now.firsts_left)
+        printf(", %lu first pairs found by trying too, %lu left out", now.firsts, now.firsts_left);
     if (now.refuted)
         printf(", %lu windows refuted by following pairs", now.refuted);
     if (now.answers_left)
@@ -71,7 +73,7 @@ const char *call_name(enum call call)
     return names[call];
 }
 
-void print_bytes(const char *name, const uint8_t *bytes, size_t len)
+static void print_bytes(const char *name, const uint8_t *bytes, size_t len)
 {
     size_t k;
 

@@ -14,6 +14,7 @@ enum {
     MOST_WINDOW = 2 * MOST_SIDE + 1,
     MOST_TABLE = 65536,
     SEARCH_BYTES = 1026,
+    MOST_PAIR = SEARCH_BYTES / 2,
     RESULT_BYTES = 64
 };
 
@@ -83,6 +84,9 @@ enum answer { NO, YES, UNKNOWN };
 void allow_steps(long steps);
 int steps_used_up(void);
 
+/* Takes one step; 0 where none is left. */
+int take_step(void);
+
 /* All runs of n letters grouped by output string: fails[b] becomes 1 where two runs have equal
    outputs and different letters at place b. Returns 0, with nothing said, where there are more
    runs than given or more than 131,072 strings. */
@@ -96,6 +100,9 @@ uint8_t window_byte(const coder *c, size_t before, size_t after, const uint8_t *
 
 /* ---- enumerator_pairs.c ---- */
 
+/* The four lengths and the differing letter. */
+size_t pair_letters(const pair *p);
+
 int pair_valid(const coder *c, const pair *p);
 
 /* Back loop and lead-in have together at most N * N letters, and so have lead-out and forward
@@ -107,5 +114,30 @@ int turned_pair_confuses(const coder *c, const pair *p, size_t back, size_t forw
 
 /* Cut from the turned pair: two runs of before + 1 + after letters that the window confuses. */
 int pair_refutes_window(const coder *c, const pair *p, size_t before, size_t after);
+
+/* ---- enumerator_first.c ---- */
+
+/* The first of all valid pairs of a coder, of any length: the one with fewest letters in all; of
+   several with as many the lowest, comparing s, t, the lengths of back loop, lead-in, lead-out and
+   forward loop, then the bytes of the letters in order. exists: UNKNOWN where the allowance did not
+   suffice. */
+typedef struct first_pair {
+    enum answer exists;
+    pair pair; /* its letters are the bytes */
+    uint8_t bytes[SEARCH_BYTES];
+} first_pair;
+
+/* Hands over all valid pairs with so many letters, in the order of comparison, until one is taken.
+   Returns whether one was; none after it, and none once the allowance is used up, is tried. */
+int each_valid_pair(const coder *c, size_t letters, int (*take)(const pair *p, void *to), void *to);
+
+/* By trying all pairs with 3 letters, with 4 letters and so on. Ends only where there is a pair, or
+   with the allowance. */
+void first_by_trying(const coder *c, first_pair *f);
+
+/* ---- enumerator_lengths.c ---- */
+
+/* By sets of pairs of states, for pairs of any length; takes no steps of the allowance. */
+void first_by_lengths(const coder *c, first_pair *f);
 
 #endif

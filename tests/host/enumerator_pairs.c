@@ -6,6 +6,11 @@ static size_t marked_place(const pair *p)
     return p->back_loop + p->lead_in;
 }
 
+size_t pair_letters(const pair *p)
+{
+    return p->back_loop + p->lead_in + 1 + p->lead_out + p->forward_loop;
+}
+
 /* Follows both runs over n letters from place k on; returns whether the outputs are equal. */
 static int follow_both(const coder *c, const pair *p, size_t k, size_t n, size_t state[2])
 {

@@ -18,7 +18,7 @@ int steps_used_up(void)
     return steps_left <= 0;
 }
 
-static int take_step(void)
+int take_step(void)
 {
     if (steps_left <= 0)
         return 0;

@@ -17,31 +17,36 @@ static void chain_window(const coder_file *f, const least known[ORDERS])
     compare_some_of_each(f);
 }
 
-static void chain_loop(const coder_file *f, size_t back, size_t forward)
+static void chain_loop(const coder_file *f)
 {
     const least none[ORDERS] = {{NO, 0, 0}, {NO, 0, 0}};
 
     known_search(f, 1, 0, 0);
     name_known_orders(f, none, f->bytes[3] <= ENUMERATED);
-    if (found->known && back)
-        known_value("the back loop modulo the chain", found->pair.back_loop % back, 0);
-    if (found->known && forward)
-        known_value("the forward loop modulo the chain", found->pair.forward_loop % forward, 0);
     compare_some_of_each(f);
 }
 
+/* A loop that has to go round the chain goes round once. Where both have to, the letters differ
+   only where the chain is closed, at its last pair: the pair of runs starts there. At 16 states
+   with all turns it has 481 letters in all. */
 static void loops_of_chains(size_t states, size_t turns)
 {
-    coder_file f;
     size_t loop = 2 * chain_pairs(states, turns);
+    const size_t both[6] = {states - 2 - turns, states - 1, loop, 0, 0, loop};
+    coder_file f;
 
     make_closed_back(&f, states, turns);
-    chain_loop(&f, loop, 0);
+    chain_loop(&f);
+    known_value("the back loop", found->pair.back_loop, loop);
     make_closed_both(&f, states, turns);
-    chain_loop(&f, loop, loop);
+    chain_loop(&f);
+    known_pair(both);
+    if (states == 16 && turns == 14)
+        known_value("the letters in all", found->letters, 481);
     if (turns + 3 <= states) {
         make_closed_forward(&f, states, turns);
-        chain_loop(&f, 0, loop);
+        chain_loop(&f);
+        known_value("the forward loop", found->pair.forward_loop, loop);
     }
 }
 
@@ -52,7 +57,8 @@ void group_chains(void)
     begin_group("chains with long windows and loops, N up to 16");
     for (n = 2; n <= 16; n++)
         for (turns = 0; turns + 2 <= n; turns++) {
-            try_verdicts(n <= 8 || (n == 16 && turns % 7 == 0), n <= 6, n <= 8 || n == 16);
+            try_verdicts(n <= 8 || (n == 16 && turns % 7 == 0), n <= 6, n <= 8 || n == 16,
+                         n <= 4 ? FIRST_STEPS : 0);
             each_known_chain(n, turns, chain_window);
             loops_of_chains(n, turns);
         }
@@ -76,7 +82,7 @@ void group_changed_chains(void)
     for (k = 0; k < 2000; k++) {
         n = 3 + random_below(k % 10 == 0 ? 14 : 6);
         turns = random_below(n - 1);
-        try_verdicts(n <= 8, n <= 6, n <= 8);
+        try_verdicts(n <= 8, n <= 6, n <= 8, n <= 4 ? FIRST_STEPS : 0);
         switch (k % 5) {
         case 0:
             make_forward_chain(&f, n, turns);

@@ -201,7 +201,7 @@ void group_damaged(const char *name, size_t faults, size_t count)
     size_t k, d;
 
     begin_group(name);
-    try_verdicts(0, 0, 0);
+    try_verdicts(0, 0, 0, 0);
     for (k = 0; k < count; k++) {
         if (k % 12 == 0) {
             make_random(&f, 1 + random_below(k % 24 ? 16 : 4), 1 + random_below(k % 24 ? 16 : 3),

@@ -159,7 +159,7 @@ void group_edges(void)
     size_t k;
 
     begin_group("edges");
-    try_verdicts(0, 0, 0);
+    try_verdicts(0, 0, 0, FIRST_STEPS);
     edge_counts(16, 1, 1, 0);
     edge_counts(17, 1, 1, 4);
     edge_counts(1, 16, 1, 0);

@@ -76,6 +76,10 @@ static void known_values(const example *e)
     coder c = coder_of_file(e->file.bytes);
 
     known_search(&e->file, e->pair, e->before, e->after);
+    if (e->pair) {
+        known_pair(e->first);
+        known_letters(e->letters, sizeof e->letters);
+    }
     known_orders(e);
     switch (e->name) {
     case 'A':
@@ -111,7 +115,7 @@ void group_examples(void)
     size_t k;
 
     begin_group("examples A to H");
-    try_verdicts(1, 1, 1);
+    try_verdicts(1, 1, 1, FIRST_STEPS);
     for (k = 0; k < EXAMPLES; k++) {
         make_example(k, &e);
         known_values(&e);

@@ -27,6 +27,7 @@ static void refused(const uint8_t *file, size_t len, size_t lent, size_t number)
 
 static void edge_buffers(const example *e)
 {
+    coder c = coder_of_file(e->file.bytes);
     enum answer works = e->pair ? NO : YES;
     const least known[ORDERS] = {{works, e->before, e->after},
                                  {works, e->fewest_before, e->fewest_after}};
@@ -34,7 +35,7 @@ static void edge_buffers(const example *e)
 
     text_file(e->file.bytes, e->file.len);
     for (order = 0; order < ORDERS; order++)
-        text_answer((enum order)order, SEARCH_BYTES, &known[order]);
+        text_answer((enum order)order, SEARCH_BYTES, &known[order], first_pair_of(&c));
     refused(e->file.bytes, e->file.len, SEARCH_BYTES - 1, 11);
     refused(e->file.bytes, e->file.len, 0, 11);
 }

@@ -9,7 +9,7 @@ void group_random(void)
     size_t k;
 
     begin_group("random coders with N up to 4, I up to 3, O up to 6");
-    try_verdicts(1, 1, 1);
+    try_verdicts(1, 1, 1, FIRST_STEPS);
     for (k = 0; k < 20000; k++) {
         make_random(&f, 1 + random_below(4), 1 + random_below(3), 1 + random_below(6));
         search(&f);
@@ -27,7 +27,7 @@ void group_random_large(void)
 
     begin_group("random coders with N up to 16, I up to 16, O up to 64");
     for (k = 0; k < 4000; k++) {
-        try_verdicts(1, 0, k % 40 == 0);
+        try_verdicts(1, 0, k % 40 == 0, FIRST_STEPS / 10);
         make_random(&f, 1 + random_below(16), 1 + random_below(16), 1 + random_below(64));
         search(&f);
         round_trip(&f);
@@ -43,7 +43,7 @@ void group_arguments(enum call call, const char *name, size_t count)
     size_t k;
 
     begin_group(name);
-    try_verdicts(0, 0, 0);
+    try_verdicts(0, 0, 0, 0);
     for (k = 0; k < count; k++) {
         forget_verdict();
         switch (random_below(4)) {

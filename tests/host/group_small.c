@@ -10,7 +10,7 @@ void group_tiny(void)
     size_t n, i, o, k;
 
     begin_group("all coders with N, I, O up to 2");
-    try_verdicts(1, 1, 1);
+    try_verdicts(1, 1, 1, FIRST_STEPS);
     for (n = 1; n <= 2; n++)
         for (i = 1; i <= 2; i++)
             for (o = 1; o <= 2; o++)
@@ -35,7 +35,7 @@ void group_three_states(void)
     size_t k;
 
     begin_group("all coders with N = 3, I = 2, O = 2");
-    try_verdicts(1, 1, 1);
+    try_verdicts(1, 1, 1, FIRST_STEPS);
     for (k = 0; k < coders_with(3, 2, 2); k++) {
         make_numbered(&f, 3, 2, 2, k);
         search(&f);

@@ -14,6 +14,7 @@ void group_chains(void);
 void group_changed_chains(void);
 void group_arguments(enum call call, const char *name, size_t count);
 void group_damaged(const char *name, size_t faults, size_t count);
+void group_ties(void);
 void group_orders(void);
 
 #endif

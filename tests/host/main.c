@@ -4,8 +4,9 @@
 
    verdict.c says how the verdict of a search is judged, and what can be tried besides. All of that
    is tried for the examples, all small coders and the small random ones; for the large random
-   coders the windows that come before the one found, and the cut pair of every 40th; for the
-   chains, as much as their number of states allows; for the other groups nothing.
+   coders the windows that come before the one found, the cut pair of every 40th, and the first pair
+   with a smaller allowance; for the chains, as much as their number of states allows; for the edges
+   and the coders with ties, the first pair; for the other groups nothing.
 
    Cases in named orders (named_orders.c) are written for the examples, all small coders, the small
    random ones, the chains, and the changed chains of up to 6 states. */
@@ -44,6 +45,7 @@ int main(int count, char **words)
     group_damaged("damaged arguments, one fault", 1, 150000);
     group_damaged("damaged arguments, two faults", 2, 150000);
     group_damaged("damaged arguments, three faults", 3, 50000);
+    group_ties();
     group_orders();
     return end_groups();
 }

@@ -1,6 +1,7 @@
 /* The search in a named order, on one coder. The calls from C name no order, so cases are written
-   for the program cases, which calls the library by its own interface. Which windows come first is
-   found with no help of the library. A window that is not known is written in no case. */
+   for the program cases, which calls the library by its own interface. Which windows and pairs
+   come first is found with no help of the library. A window that is not known is written in no
+   case. */
 #include "named_orders.h"
 
 #include "case_texts.h"
@@ -16,6 +17,7 @@ static int two_windows(const least in_order[ORDERS])
 
 static void write_cases(const coder_file *f, const least in_order[ORDERS])
 {
+    coder c = coder_of_file(f->bytes);
     int order;
 
     now.two_windows += two_windows(in_order);
@@ -24,7 +26,7 @@ static void write_cases(const coder_file *f, const least in_order[ORDERS])
         if (in_order[order].works == UNKNOWN)
             now.cases_left++;
         else
-            text_answer((enum order)order, SEARCH_BYTES + 4, &in_order[order]);
+            text_answer((enum order)order, SEARCH_BYTES + 4, &in_order[order], first_pair_of(&c));
 }
 
 static void same_window(const least *got, const least *wanted)

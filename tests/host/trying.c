@@ -11,10 +11,7 @@
 
 enum way { NOT_YET, BY_GROUPS, BY_PAIRS };
 
-static struct {
-    size_t states, inputs, outputs;
-    uint8_t entries[2 * MOST_STATES * MOST_INPUTS];
-} kept;
+static kept_coder kept;
 
 /* For each length the way, and by groups what they say of every window of it; for each window, by
    its letters and its letters before, whether it was tried and whether it fails. */
@@ -28,19 +25,18 @@ size_t side_bound(const coder *c)
     return c->states * (c->states + 1) / 2;
 }
 
-static void keep_coder(const coder *c)
+int another_coder(kept_coder *k, const coder *c)
 {
     size_t bytes = 2 * c->states * c->inputs;
 
-    if (kept.states == c->states && kept.inputs == c->inputs && kept.outputs == c->outputs
-        && memcmp(kept.entries, c->entries, bytes) == 0)
-        return;
-    kept.states = c->states;
-    kept.inputs = c->inputs;
-    kept.outputs = c->outputs;
-    memcpy(kept.entries, c->entries, bytes);
-    memset(ways, 0, sizeof ways);
-    memset(tried, 0, sizeof tried);
+    if (k->states == c->states && k->inputs == c->inputs && k->outputs == c->outputs
+        && memcmp(k->entries, c->entries, bytes) == 0)
+        return 0;
+    k->states = c->states;
+    k->inputs = c->inputs;
+    k->outputs = c->outputs;
+    memcpy(k->entries, c->entries, bytes);
+    return 1;
 }
 
 static enum answer try_window(const coder *c, size_t before, size_t after)
@@ -61,7 +57,10 @@ enum answer window_fails(const coder *c, size_t before, size_t after)
 {
     size_t n = before + 1 + after;
 
-    keep_coder(c);
+    if (another_coder(&kept, c)) {
+        memset(ways, 0, sizeof ways);
+        memset(tried, 0, sizeof tried);
+    }
     if (!tried[n][before]) {
         tried[n][before] = 1;
         answers[n][before] = try_window(c, before, after);

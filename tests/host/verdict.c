@@ -1,13 +1,14 @@
 /* The verdict of a search, judged. The search reports the window with least lookahead and, among
    those that work, with fewest letters before.
 
-   A window that the search gives is tried, and so is the one with a letter before less. Where the
-   search says "no decoder", its pair is followed, turned 0 to 3 times either way. What is tried
-   besides is set for each group (try_verdicts): every window that comes before the one given, those
-   with less lookahead with up to N (N + 1) / 2 letters before; or every window up to N (N + 1) / 2
-   a side; or the pair cut to two runs of the length of each of these windows. trying.c says how a
-   window is tried. Windows for which its allowance does not suffice are counted as left out, and do
-   not fail a group. */
+   A window that the search gives is tried, and so is the one with a letter before less. Where there
+   is a looped pair, the search has to give the first one, every number and letter of it, and the
+   pair is followed, turned 0 to 3 times either way. What is tried besides is set for each group
+   (try_verdicts): every window that comes before the one given, those with less lookahead with up
+   to N (N + 1) / 2 letters before; or every window up to N (N + 1) / 2 a side; or the pair cut to
+   two runs of the length of each of these windows; or the first pair by trying. trying.c says how a
+   window is tried, first_pairs.c how the first pair is found. Windows and first pairs for which the
+   allowance does not suffice are counted as left out, and do not fail a group. */
 #include "compare.h"
 
 #include <string.h>
@@ -17,6 +18,7 @@ const verdict *const found = &latest;
 
 static struct {
     int smaller, all, refute;
+    long first;
 } trying;
 
 void forget_verdict(void)
@@ -24,11 +26,12 @@ void forget_verdict(void)
     latest.known = 0;
 }
 
-void try_verdicts(int smaller, int all, int refute)
+void try_verdicts(int smaller, int all, int refute, long first)
 {
     trying.smaller = smaller;
     trying.all = all;
     trying.refute = refute;
+    trying.first = first;
 }
 
 /* A window that comes before the one given: it does not work. */
@@ -87,6 +90,20 @@ static void refute_all_windows(const coder *c)
                 differ("the pair does not refute window %zu %zu", b, a);
 }
 
+/* The pair has to be the first one: its numbers and its letters. */
+static void judge_first(const pair *first)
+{
+    const pair *p = &latest.pair;
+
+    if (!same_numbers(p, first))
+        differ("pair %zu %zu lengths %zu %zu %zu %zu found, but the first is %zu %zu lengths "
+               "%zu %zu %zu %zu", p->s, p->t, p->back_loop, p->lead_in, p->lead_out,
+               p->forward_loop, first->s, first->t, first->back_loop, first->lead_in,
+               first->lead_out, first->forward_loop);
+    else if (!same_letters(p, first))
+        differ("the pair found has other letters than the first");
+}
+
 static void judge_pair(const coder *c)
 {
     size_t k, m;
@@ -101,7 +118,6 @@ static void judge_pair(const coder *c)
         }
     if (!pair_valid(c, &latest.pair)) {
         differ("the pair found is not valid");
-        print_bytes("pair", latest.bytes, 2 * latest.letters);
         return;
     }
     for (k = 0; k < 4; k++)
@@ -112,6 +128,8 @@ static void judge_pair(const coder *c)
         refute_all_windows(c);
     if (trying.all)
         try_all_windows(c);
+    if (trying.first > 0)
+        try_first_pair(c, trying.first);
 }
 
 /* Reads the fields of a pair; 0 where they break the bounds. */
@@ -128,23 +146,43 @@ static int read_pair(const coder *c, const uint8_t *result, const uint8_t *lent)
     p->letters = latest.bytes;
     if (p->s >= c->states || p->t >= c->states || !pair_keeps_bounds(c, p))
         return 0;
-    latest.letters = p->back_loop + p->lead_in + 1 + p->lead_out + p->forward_loop;
+    latest.letters = pair_letters(p);
     memcpy(latest.bytes, lent, 2 * latest.letters);
     return 1;
+}
+
+/* What a search writes that finds this pair. */
+static void want_pair(const pair *p, uint8_t *wanted_lent, uint8_t *wanted_result)
+{
+    const size_t fields[7] = {1, p->s, p->t, p->back_loop, p->lead_in, p->lead_out,
+                              p->forward_loop};
+    size_t k;
+
+    for (k = 0; k < 7; k++)
+        put_field(wanted_result, k, fields[k]);
+    memcpy(wanted_lent, p->letters, 2 * pair_letters(p));
 }
 
 void judge_search(const arguments *a, const uint8_t *lent, const uint8_t *result,
                   uint8_t *wanted_lent, uint8_t *wanted_result)
 {
     coder c = coder_of_file(a->file);
+    const first_pair *first = first_pair_of(&c);
     uint64_t kind = get_field(result, 0);
 
     memset(&latest, 0, sizeof latest);
+    if (first->exists == YES)
+        want_pair(&first->pair, wanted_lent, wanted_result);
+    if (kind != (first->exists == YES) || first->exists == UNKNOWN)
+        differ("verdict of kind %llu, but there is %s", (unsigned long long)kind,
+               first->exists == YES ? "a looped pair"
+               : first->exists == NO ? "no looped pair" : "no first pair within the bounds");
     if (kind == 0) {
         latest.known = 1;
         latest.before = get_field(result, 1);
         latest.after = get_field(result, 2);
-        memcpy(wanted_result, result, 3 * 8);
+        if (first->exists == NO)
+            memcpy(wanted_result, result, 3 * 8);
         judge_window(&c);
     } else if (kind == 1) {
         latest.is_pair = 1;
@@ -153,10 +191,8 @@ void judge_search(const arguments *a, const uint8_t *lent, const uint8_t *result
             return;
         }
         latest.known = 1;
-        memcpy(wanted_result, result, 7 * 8);
-        memcpy(wanted_lent, latest.bytes, 2 * latest.letters);
+        if (first->exists == YES)
+            judge_first(&first->pair);
         judge_pair(&c);
-    } else {
-        differ("verdict of kind %llu", (unsigned long long)kind);
     }
 }

@@ -3,98 +3,47 @@ use crate::asking;
 use crate::asking::Request;
 use crate::got;
 use crate::got::Got;
-use crate::pair;
 use values::LoopedPair;
 use values::Order;
 use values::Window;
 
-pub(crate) fn counts(file: &[u8]) -> Got {
+fn counts(file: &[u8]) -> Got {
     match coder::counts(file) {
-        coder::Header::Refused(k) => Got {
-            form: got::REFUSED,
-            a: k,
-            b: 0,
-            c: 0,
-        },
+        coder::Header::Refused(k) => got::short(got::REFUSED, k, 0, 0),
         coder::Header::Counts {
             states,
             inputs,
             outputs,
-        } => Got {
-            form: got::CODER,
-            a: states,
-            b: inputs,
-            c: outputs,
-        },
+        } => got::short(got::CODER, states, inputs, outputs),
     }
 }
 
 fn run(file: &[u8], start: usize, input: &[u8], lent: &mut [u8]) -> Got {
     match running::run(file, start, input, lent) {
-        running::RunResult::Refused(k) => Got {
-            form: got::REFUSED_BUFFER,
-            a: k,
-            b: 0,
-            c: 0,
-        },
-        running::RunResult::Done { count, end } => Got {
-            form: got::RAN,
-            a: count,
-            b: end,
-            c: 0,
-        },
+        running::RunResult::Refused(k) => got::short(got::REFUSED_BUFFER, k, 0, 0),
+        running::RunResult::Done { count, end } => got::short(got::RAN, count, end, 0),
     }
 }
 
 fn answer(a: fitting::Answer) -> Got {
     match a {
-        fitting::Answer::Letter(x) => Got {
-            form: got::LETTER,
-            a: x as usize,
-            b: 0,
-            c: 0,
-        },
-        fitting::Answer::None => Got {
-            form: got::NONE,
-            a: 0,
-            b: 0,
-            c: 0,
-        },
-        fitting::Answer::Several => Got {
-            form: got::SEVERAL,
-            a: 0,
-            b: 0,
-            c: 0,
-        },
+        fitting::Answer::Letter(x) => got::short(got::LETTER, x as usize, 0, 0),
+        fitting::Answer::None => got::short(got::NONE, 0, 0, 0),
+        fitting::Answer::Several => got::short(got::SEVERAL, 0, 0, 0),
     }
 }
 
 fn window(file: &[u8], w: Window, received: &[u8]) -> Got {
     match decoder::window(file, w, received) {
-        decoder::WindowResult::Refused(k) => Got {
-            form: got::REFUSED,
-            a: k,
-            b: 0,
-            c: 0,
-        },
+        decoder::WindowResult::Refused(k) => got::short(got::REFUSED, k, 0, 0),
         decoder::WindowResult::Answered(a) => answer(a),
     }
 }
 
 fn counted(r: decoder::CountResult) -> Got {
     match r {
-        decoder::CountResult::Refused(k) => Got {
-            form: got::REFUSED_BUFFER,
-            a: k,
-            b: 0,
-            c: 0,
-        },
-        decoder::CountResult::Done { count } => Got {
-            form: got::COUNTED,
-            a: count,
-            b: 0,
-            c: 0,
-        },
+        decoder::CountResult::Refused(k) => got::short(got::REFUSED_BUFFER, k, 0, 0),
+        decoder::CountResult::Done { count } => got::short(got::COUNTED, count, 0, 0),
     }
 }
 
@@ -109,50 +58,38 @@ fn searched(file: &[u8], asked: usize, lent: &mut [u8]) -> search::SearchResult 
     search::search(file, lent)
 }
 
-// What a search gave. Of a looped pair its form says whether what is fixed of it holds; or, where one loop is asked for, how long that is.
+// A looped pair: its start states and its lengths.
+fn pair(p: LoopedPair) -> Got {
+    Got {
+        form: got::PAIR,
+        a: p.s,
+        b: p.t,
+        c: p.back_loop,
+        d: p.lead_in,
+        e: p.lead_out,
+        f: p.forward_loop,
+    }
+}
+
+// What a search gave.
 fn search(file: &[u8], asked: usize, lent: &mut [u8]) -> Got {
     match searched(file, asked, lent) {
-        search::SearchResult::Refused(k) => Got {
-            form: got::REFUSED_BUFFER,
-            a: k,
-            b: 0,
-            c: 0,
-        },
+        search::SearchResult::Refused(k) => got::short(got::REFUSED_BUFFER, k, 0, 0),
         search::SearchResult::Found(v) => match v {
-            search::Verdict::Least(w) => Got {
-                form: got::LEAST,
-                a: w.before,
-                b: w.after,
-                c: 0,
-            },
-            search::Verdict::NoDecoder(p) => { pair::got(file, asked, p, lent) }
+            search::Verdict::Least(w) => got::short(got::LEAST, w.before, w.after, 0),
+            search::Verdict::NoDecoder(p) => pair(p),
         },
     }
 }
 
-pub(crate) fn check(file: &[u8], p: LoopedPair, letters: &[u8]) -> Got {
+fn check(file: &[u8], p: LoopedPair, letters: &[u8]) -> Got {
     match checker::check(file, p, letters) {
-        checker::CheckResult::Refused(k) => Got {
-            form: got::REFUSED,
-            a: k,
-            b: 0,
-            c: 0,
-        },
+        checker::CheckResult::Refused(k) => got::short(got::REFUSED, k, 0, 0),
         checker::CheckResult::Checked(valid) => {
             if valid {
-                return Got {
-                    form: got::YES,
-                    a: 0,
-                    b: 0,
-                    c: 0,
-                };
+                return got::short(got::YES, 0, 0, 0);
             }
-            Got {
-                form: got::NO,
-                a: 0,
-                b: 0,
-                c: 0,
-            }
+            got::short(got::NO, 0, 0, 0)
         }
     }
 }
@@ -180,12 +117,7 @@ fn plain(q: Request, file: &[u8], input: &[u8]) -> Got {
         };
         return check(file, p, input);
     }
-    Got {
-        form: got::BYTES,
-        a: 0,
-        b: 0,
-        c: 0,
-    }
+    got::short(got::BYTES, 0, 0, 0)
 }
 
 // A call with its lent buffer.
@@ -203,7 +135,7 @@ pub(crate) fn make(q: Request, file: &[u8], input: &[u8], lent: &mut [u8]) -> Go
     if q.call == asking::TABLE {
         return counted(decoder::table(file, w, lent));
     }
-    // The search, the two that ask for one loop of its pair, and those that name an order.
+    // The search, and those that name an order.
     if q.call <= asking::FEWEST_LETTERS {
         return search(file, q.call, lent);
     }

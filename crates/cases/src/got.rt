@@ -1,5 +1,7 @@
 // What a call gave, its text, and whether it is the expected one.
 use crate::reading::NOWHERE;
+use crate::reading::after;
+use crate::reading::blanks;
 use crate::reading::form_at;
 
 pub(crate) const REFUSED: usize = 0;
@@ -28,23 +30,13 @@ pub(crate) const NO: usize = 11;
 
 pub(crate) const PAIR: usize = 12;
 
-pub(crate) const PAIR_WRONG: usize = 13;
+pub(crate) const UNREADABLE: usize = 13;
 
-pub(crate) const PAIR_LONG: usize = 14;
+pub(crate) const CASE: usize = 14;
 
-pub(crate) const PAIR_PAST: usize = 15;
+pub(crate) const TOTAL: usize = 15;
 
-pub(crate) const BACK: usize = 16;
-
-pub(crate) const FORWARD: usize = 17;
-
-pub(crate) const UNREADABLE: usize = 18;
-
-pub(crate) const CASE: usize = 19;
-
-pub(crate) const TOTAL: usize = 20;
-
-pub(crate) const LONG: usize = 21;
+pub(crate) const LONG: usize = 16;
 
 // The number of a form, and the numbers that stand in it.
 pub(crate) struct Got {
@@ -52,10 +44,26 @@ pub(crate) struct Got {
     pub(crate) a: usize,
     pub(crate) b: usize,
     pub(crate) c: usize,
+    pub(crate) d: usize,
+    pub(crate) e: usize,
+    pub(crate) f: usize,
+}
+
+// A form with three numbers at most.
+pub(crate) fn short(form: usize, a: usize, b: usize, c: usize) -> Got {
+    Got {
+        form,
+        a,
+        b,
+        c,
+        d: 0,
+        e: 0,
+        f: 0,
+    }
 }
 
 // The forms, in the order of their numbers: `#` stands for a space and a number, `@` for a list of bytes with a space before each.
-fn forms() -> [u8; 384] {
+fn forms() -> [u8; 226] {
     *b"refused#\n\
     refused#, buffer@\n\
     coder###\n\
@@ -68,12 +76,7 @@ fn forms() -> [u8; 384] {
     window##, buffer@\n\
     yes\n\
     no\n\
-    no decoder, checked, within bounds, rest kept\n\
-    no decoder, but the checker says no\n\
-    no decoder, but out of bounds\n\
-    no decoder, but bytes past the letters changed\n\
-    back loop#\n\
-    forward loop#\n\
+    no decoder######, buffer@\n\
     cannot be read\n\
     case#: \n\
     cases#, differ#\n\
@@ -81,7 +84,7 @@ fn forms() -> [u8; 384] {
 }
 
 // The place after the bytes that equal the one at `at`.
-pub(crate) fn run_end(bytes: &[u8], at: usize) -> usize {
+fn run_end(bytes: &[u8], at: usize) -> usize {
     let mut i = at;
     while i < bytes.len() {
         if bytes[i] != bytes[at] {
@@ -109,6 +112,15 @@ fn word_after(line: &[u8], at: usize, word: &[u8]) -> usize {
     p
 }
 
+// The place after the blanks that stand at `at`, one at least.
+fn blanks_after(line: &[u8], at: usize) -> usize {
+    let next = blanks(line, at);
+    if next == at {
+        return NOWHERE;
+    }
+    next
+}
+
 // The functions from here on go through the text of what a call gave. With `say` they write it; else they return the place after it, if
 // it stands at `at`.
 fn word(line: &[u8], at: usize, word: &[u8], say: bool) -> usize {
@@ -119,11 +131,23 @@ fn word(line: &[u8], at: usize, word: &[u8], say: bool) -> usize {
     word_after(line, at, word)
 }
 
+// One byte. Where a space is to stand the line may go on with the next one.
+fn one(line: &[u8], at: usize, byte: u8, say: bool) -> usize {
+    if say {
+        let word = [byte];
+        io::write_all(1, &word);
+        return at;
+    }
+    if byte == b' ' {
+        return blanks_after(line, at);
+    }
+    after(line, at, byte)
+}
+
 // A byte, and a number behind it.
 fn number(line: &[u8], at: usize, before: u8, n: usize, say: bool) -> usize {
     let mut digits = [0u8; 20];
-    let one = [before];
-    let next = word(line, at, &one, say);
+    let next = one(line, at, before, say);
     let k = io::decimal(n as u64, &mut digits);
     word(line, next, &digits[..k], say)
 }
@@ -162,8 +186,7 @@ fn sign(line: &[u8], at: usize, form: u8, g: Got, bytes: &[u8], say: bool) -> us
     if form == b'@' {
         return list(line, at, bytes, say);
     }
-    let one = [form];
-    word(line, at, &one, say)
+    one(line, at, form, say)
 }
 
 // The numbers that are left after one byte of a form.
@@ -173,7 +196,10 @@ fn rest(form: u8, g: Got) -> Got {
             form: g.form,
             a: g.b,
             b: g.c,
-            c: 0,
+            c: g.d,
+            d: g.e,
+            e: g.f,
+            f: 0,
         };
     }
     g
@@ -211,5 +237,5 @@ pub(crate) fn text(g: Got, bytes: &[u8], line: &[u8], at: usize, say: bool) -> u
 
 // Writes the text of a form.
 pub(crate) fn say(form: usize, a: usize, b: usize) {
-    text(Got { form, a, b, c: 0 }, b"", b"", 0, true);
+    text(short(form, a, b, 0), b"", b"", 0, true);
 }

@@ -3,7 +3,6 @@
 mod asking; // asking.rt: the call that a case asks for, with its arguments
 mod calls; // calls.rt: the public calls
 mod got; // got.rt: what a call gave, its text, and whether it is the expected one
-mod pair; // pair.rt: what is fixed of a looped pair
 mod reading; // reading.rt: numbers and lists of bytes in a line
 
 use asking::Request;
@@ -48,12 +47,7 @@ fn holds(number: usize, line: &[u8], at: usize, g: Got, bytes: &[u8]) -> bool {
         return true;
     }
     if at == NOWHERE {
-        let none = Got {
-            form: got::UNREADABLE,
-            a: 0,
-            b: 0,
-            c: 0,
-        };
+        let none = got::short(got::UNREADABLE, 0, 0, 0);
         return differs(number, line, none, b"");
     }
     differs(number, line, g, bytes)
@@ -94,12 +88,7 @@ fn make(
             number,
             line,
             NOWHERE,
-            Got {
-                form: got::UNREADABLE,
-                a: 0,
-                b: 0,
-                c: 0,
-            },
+            got::short(got::UNREADABLE, 0, 0, 0),
             file,
         );
     }

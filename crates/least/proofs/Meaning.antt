@@ -22,7 +22,7 @@ use Rattle.coder.specs.Limits.{maxSide}
 use Rattle.chains.specs.Chain.{isEntry}
 use Rattle.product.specs.Depth.{endless, Depth, Depths}
 use Rattle.product.specs.Rounds.{StartIn}
-use Rattle.product.specs.Conflict.{Conflicting, backOf, forwardOf}
+use Rattle.product.specs.Conflict.{Conflicting, EndlessConflict, backOf, forwardOf}
 use Rattle.product.proofs.Entries.{source-at, entry-below, far-below, entries-edge, edge-entries}
 use Rattle.product.proofs.Depths.{pairs-high, start-decided, start-bounded}
 use Rattle.least.specs.Need.{Counted, EachCounted, Needs, Chosen}
@@ -74,6 +74,12 @@ module _ (c : Coder) (starts : ℕ) (conflicts : List ℕ) (sound : Sound c) (ba
     conflict = k .conflict;
     to = g;
   }
+
+  -- one that is endless on both sides joins all levels
+  pub endless-edge : (p q : ℕ) → EndlessConflict c conflicts backs forwards p q → (b a : ℕ) → Ambiguous S b a
+  endless-edge p q e b a =
+      conflict-edge b a p q (e .edge) (back-depth p q (e .edge) .always (e .ends .back-endless) b)
+      (forward-depth p q (e .edge) .always (e .ends .forward-endless) a)
 
   -- and the entries of a conflicting edge between level sets
   record EdgeEntries (b a : ℕ) : Type 0 where

@@ -1,5 +1,8 @@
--- The laws of walks along endless pairs and of the looped pair that they make.
-pub mod Walking
-pub mod Writing
-pub mod Endless
+-- Laws that other crates cite.
+pub mod MakingTables
+pub mod CostLengths
+pub mod Keeping
+pub mod ClosedParts
+pub mod Marks
+pub mod BetweenParts
 pub mod Finding

@@ -1,3 +1,3 @@
 -- What the contracts of the looped pair's finder cite.
-pub mod Walk
 pub mod Pair
+pub mod Parts

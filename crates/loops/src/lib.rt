@@ -1,2 +1,2 @@
-// The looped pair that excludes every window, from the endless pairs of the product machine.
+// The first looped pair, by least costs of walks of the product machine.
 pub mod inner; // inner.rt: what the crates above call; no public calls

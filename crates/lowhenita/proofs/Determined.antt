@@ -1,26 +1,21 @@
--- Each call from C leaves one outcome: two that meet its promise for the same arguments are equal, number and buffers. Of the search
--- this holds but for which looped pair is given.
+-- Each call from C leaves one outcome: two that meet its promise for the same arguments are equal, number and buffers.
 use mathlib.Core.Path.{_≡_, sym, ap, ap₂, _∙_}
 use mathlib.Core.Bool.{Bool}
 use mathlib.Core.List.{List, [], _∷_}
-use mathlib.Core.Logic.{_⊎_, inl, inr}
 use Prim.Native.Nat.{ℕ, zero, suc}
 use lib.ListN.{take, drop}
 use Rattle.mealy.specs.Index.{windowAt}
 use Rattle.mealy.specs.LoopedPair.{LoopedPair}
-use Rattle.mealy.proofs.LeastWindows.{least-unique}
 use Rattle.coder.specs.Refusal.{upon}
 use Rattle.coder.specs.File.{outputsOf, settingOf}
 use Rattle.values.specs.Window.{size}
 use Rattle.values.specs.declared.Window.{Window}
-use Rattle.values.specs.declared.LoopedPair as values
 use Rattle.fitting.proofs.Answers.{right-byte-unique}
 use Rattle.decoder.proofs.Writing.{written-unique}
-use Rattle.values.specs.Order.{relationOf, defaultOrder}
+use Rattle.values.specs.Order.{defaultOrder}
 use Rattle.values.proofs.Orders.{is-order}
-use Rattle.search.specs.Search.{Says, PairReport}
 use Rattle.search.specs.declared.Verdict.{Verdict}
-use Rattle.search.specs.declared.Verdict.the-variants.{Least, NoDecoder}
+use Rattle.search.proofs.Determined.{verdict-determined}
 use Rattle.checker.proofs.Judging.{judges-same}
 use Rattle.layout.specs.Layout.{withFields, verdictFields, numberOf}
 use Rattle.lowhenita.specs.Host.{Hosted, BothStay, RunHosted, SearchHosted, BytesGiven, DecodeHosted, TableHosted, CheckHosted, WindowHosted}
@@ -59,36 +54,13 @@ run-determined f s xs before result r q after after₂ result′ result₂ =
 
 -- ---- the window search
 
--- the outcome is a looped pair that the search may give
-pub record PairGiven (f before result after result′ : List ℕ) : Type 0 where
-  pub pair : values.LoopedPair
-  pub report : PairReport (settingOf f) pair before after
-  pub fields : result′ ≡ withFields result (verdictFields (NoDecoder pair))
-
-module _ (f before result after after₂ result′ result₂ : List ℕ) where
-  -- the buffers are equal, or each outcome is a looped pair
-  abbrev pub SameButPair : Type 0
-  SameButPair =
-      ((after ≡ after₂) × (result′ ≡ result₂))
-      ⊎ (PairGiven f before result after result′ × PairGiven f before result after₂ result₂)
-
-  verdicts :
-      (v u : Verdict) → Says (relationOf defaultOrder) (settingOf f) v before after → Says (relationOf defaultOrder) (settingOf f) u before after₂ →
-      result′ ≡ withFields result (verdictFields v) → result₂ ≡ withFields result (verdictFields u) → SameButPair
-  verdicts (Least w) (Least x) p q d e =
-      let same = least-unique (is-order defaultOrder) (settingOf f) _ _ _ _ (p .least) (q .least) in
-      inl (p .stays ∙ sym (q .stays), d ∙ ap₂ (λ (b a : ℕ). withFields result (0 ∷ b ∷ a ∷ [])) (same .0) (same .1) ∙ sym e)
-  verdicts (Least w) (NoDecoder x) p q d e = absurd (q .none _ _ (p .least .works))
-  verdicts (NoDecoder w) (Least x) p q d e = absurd (p .none _ _ (q .least .works))
-  verdicts (NoDecoder w) (NoDecoder x) p q d e =
-      inr (record { pair = w; report = p; fields = d }, record { pair = x; report = q; fields = e })
-
-  pub search-determined :
-      (r q : ℕ) → SearchHosted f before result r after result′ → SearchHosted f before result q after₂ result₂ →
-      (r ≡ q) × SameButPair
-  search-determined r q =
-      hosted-determined (λ g g₂. inl (both-stay g g₂))
-      (λ g g₂. verdicts (g .verdict) (g₂ .verdict) (g .says) (g₂ .says) (g .fields) (g₂ .fields))
+pub search-determined :
+    (f before result : List ℕ) (r q : ℕ) (after after₂ result′ result₂ : List ℕ) → SearchHosted f before result r after result′ →
+    SearchHosted f before result q after₂ result₂ → (r ≡ q) × ((after ≡ after₂) × (result′ ≡ result₂))
+search-determined f before result r q after after₂ result′ result₂ =
+    hosted-determined both-stay
+    (λ g g₂. let e = verdict-determined (is-order defaultOrder) (settingOf f) before (g .verdict) (g₂ .verdict) after after₂ (g .says) (g₂ .says) in
+    (e .1, g .fields ∙ ap (λ (v : Verdict). withFields result (verdictFields v)) (e .0) ∙ sym (g₂ .fields)))
 
 -- ---- the string decoder and the decoder table
 

@@ -67,8 +67,8 @@ pub record VerdictGiven (S : Setting) (before result after result′ : List ℕ)
   pub fields : result′ ≡ withFields result (verdictFields verdict)
 
 -- Demand 3 for a host ("Coders and runs", last sentence: the call hands on the search's answer): field 0 is 0 for a window, whose sides
--- are fields 1 and 2, and 1 for a looped pair, whose start states and lengths are fields 1 to 6, and whose letters lie in the lent
--- buffer. Which looped pair is given is left open, here as in the search; all else is determined.
+-- are fields 1 and 2, and 1 for the first looped pair, whose start states and lengths are fields 1 to 6, and whose letters lie in the
+-- lent buffer.
 abbrev pub SearchHosted : List ℕ → List ℕ → List ℕ → ℕ → List ℕ → List ℕ → Type 0
 SearchHosted f before result r after result′ =
     Hosted (searchNumber f before result) r (BothStay before result after result′)

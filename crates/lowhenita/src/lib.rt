@@ -42,8 +42,8 @@ pub extern "C" fn lowhenita_run(
     0
 }
 
-// Finds the least window that works for a coder in the default order, least lookahead, or a looped pair where none does. Refusals 1 to 6,
-// 11. Which looped pair is given is left open.
+// Finds the least window that works for a coder in the default order, least lookahead, or the first looped pair where none does. Refusals
+// 1 to 6, 11.
 #[no_mangle]
 pub extern "C" fn lowhenita_search(file: &[u8], letters: &mut [u8], result: &mut [u8]) -> usize
     ensures { λ r. ⌜ SearchHosted (now (file .entry)) (now (letters .entry)) (now (result .entry)) r (now (letters .exit)) (now (result .exit)) ⌝ }

@@ -20,9 +20,9 @@ use Rattle.chains.specs.Chain.{Keys, Chained}
 use Rattle.chains.specs.declared.inner.Chain.{Chain}
 use Rattle.chains.proofs.Chains.{last-above}
 use Rattle.chains.proofs.Entries.{has-key}
-use Rattle.product.specs.Depth.{at, endless, Depth}
-use Rattle.product.specs.Entries.{sources, nearEnds, farEnds, far, Joins, ArraysOf}
-use Rattle.product.specs.Rounds.{Seeking, RightTo, CoderLevel, edgeAt, Before, After, Some, Started, FirstEdges, DepthsFound}
+use Rattle.product.specs.Depth.{at, endless, Depth, Depths}
+use Rattle.product.specs.Entries.{sources, nearEnds, farEnds, ArraysOf}
+use Rattle.product.specs.Rounds.{Seeking, RightTo, StartIn, CoderLevel, edgeAt, Before, After, Some, Started, FirstEdges}
 use Rattle.product.proofs.Entries.{source-at, entry-below}
 use Rattle.coder.proofs.Tables.{next-high}
 use Rattle.product.proofs.Seeking.{chain-last, last-is}
@@ -121,7 +121,7 @@ module _ (c : Coder) (d : Direction) (starts : ℕ) (sound : Sound c) where
         shape = r .shape;
         kept = r .kept;
         right = r .right;
-        seeking = λ u v l m e. seeking-map c d starts sound k low (λ s t _ _. level-fall S d k s t) (r .sought u v l m e .seeking);
+        seeking = λ u v l m e. seeking-map c d starts sound k low (λ s t _ _. level-fall S d k s t) (r .seeking u v l m e);
       }
 
   -- a round that changed something was not past N (N + 1) / 2
@@ -183,26 +183,5 @@ module _ (c : Coder) (d : Direction) (starts : ℕ) (sound : Sound c) where
           high = x .high;
         }
 
-    edge-of :
-        (u v p q : ℕ) → u < 16 → v < 16 → at square u v ≡ endless → edgeAt xs ys u v .x ≡ suc p → edgeAt xs ys u v .y ≡ suc q →
-        Joins c d u v p q × (at square (far d c p) (far d c q) ≡ endless)
-    edge-of u v p q l m e f g =
-        let j = r .sought u v l m e .edge p q f g in
-        let b = level-high k _ _ (j .1) in
-        (j .0, above (far d c p) (far d c q) (b .0) (b .1) (j .1))
-
-    pub depths-found : DepthsFound c d starts square xs ys
-    depths-found = record {
-      depths = record {
-        shape = r .shape;
-        depth = depth;
-        finite = λ u v l m n. omega (arith, value u v l m n);
-      };
-      edges = record {
-        kept = r .kept;
-        first = r .edge;
-        second = λ u v l m e. r .sought u v l m e .found (r .edge u v l m e);
-        high = λ u v l m e. let s = r .sought u v l m e .seeking in (s .on₁ .high, s .on₂ .high);
-        edge = edge-of;
-      };
-    }
+    pub depths-found : Depths (machineOfCoder c) (StartIn (c .states) starts) d square
+    depths-found = record { shape = r .shape; depth = depth; finite = λ u v l m n. omega (arith, value u v l m n) }

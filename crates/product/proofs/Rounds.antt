@@ -111,6 +111,11 @@ module _ (c : Coder) (d : Direction) (starts : ℕ) (sound : Sound c) (k : ℕ) 
       edge = λ p q a b. let j = s .edge p q a b in let h = far-high p q (j .0) in (j .0, g _ _ (h .0) (h .1) (j .1));
     }
 
+  -- the search has come as far with an equal edge
+  seeking-same :
+      {u v : ℕ} {e e′ : Edge} → e′ ≡ e → Seeking c d (L k) u v (e .x) (e .y) → Seeking c d (L k) u v (e′ .x) (e′ .y)
+  seeking-same {u} {v} p = subst (λ (g : Edge). Seeking c d (L k) u v (g .x) (g .y)) (sym p)
+
   -- ---- the round has come to place a
 
   pub record InRound (a : ℕ) (square : List (List ℕ)) (xs ys : List ℕ) (b : Bool) : Type 0 where
@@ -118,11 +123,8 @@ module _ (c : Coder) (d : Direction) (starts : ℕ) (sound : Sound c) (k : ℕ) 
     pub kept : Kept xs ys
     pub done : (u v : ℕ) → u < 16 → v < 16 → 16 * u + v < a → RightTo (λ m. L m u v) (suc k) (at square u v)
     pub left : (u v : ℕ) → u < 16 → v < 16 → a ≤ 16 * u + v → RightTo (λ m. L m u v) k (at square u v)
-    pub sought : (u v : ℕ) → u < 16 → v < 16 → 16 * u + v < a → at square u v ≡ endless → Sought c d (L k) u v (edgeAt xs ys u v)
-    pub edge : (u v : ℕ) → u < 16 → v < 16 → 16 * u + v < a → at square u v ≡ endless → 0 < edgeAt xs ys u v .x
     pub seeking :
-        (u v : ℕ) → u < 16 → v < 16 → a ≤ 16 * u + v → at square u v ≡ endless →
-        Seeking c d (L k) u v (edgeAt xs ys u v .x) (edgeAt xs ys u v .y)
+        (u v : ℕ) → u < 16 → v < 16 → at square u v ≡ endless → Seeking c d (L k) u v (edgeAt xs ys u v .x) (edgeAt xs ys u v .y)
     pub changed : b ≡ true → Some square (suc k)
     pub unchanged : b ≡ false → (u v : ℕ) → u < 16 → v < 16 → 16 * u + v < a → at square u v ≡ suc k → ⊥
 
@@ -132,9 +134,7 @@ module _ (c : Coder) (d : Direction) (starts : ℕ) (sound : Sound c) (k : ℕ) 
     kept = b .kept;
     done = λ u v l m n. absurd (omega arith);
     left = λ u v l m n. b .right u v l m;
-    sought = λ u v l m n. absurd (omega arith);
-    edge = λ u v l m n. absurd (omega arith);
-    seeking = λ u v l m n. b .seeking u v l m;
+    seeking = b .seeking;
     changed = λ e. absurd (true-false e refl);
     unchanged = λ e u v l m n. absurd (omega arith);
   }
@@ -142,8 +142,7 @@ module _ (c : Coder) (d : Direction) (starts : ℕ) (sound : Sound c) (k : ℕ) 
   -- what is known of the pair at place a after it was seen to
   record Seen (u v : ℕ) (square : List (List ℕ)) (xs ys : List ℕ) (b b′ : Bool) : Type 0 where
     right : RightTo (λ m. L m u v) (suc k) (at square u v)
-    sought : at square u v ≡ endless → Sought c d (L k) u v (edgeAt xs ys u v)
-    edge : at square u v ≡ endless → 0 < edgeAt xs ys u v .x
+    seeking : at square u v ≡ endless → Seeking c d (L k) u v (edgeAt xs ys u v .x) (edgeAt xs ys u v .y)
     changed : b′ ≡ true → Some square (suc k)
     unchanged : b′ ≡ false → (b ≡ false) × (at square u v ≡ suc k → ⊥)
 
@@ -165,17 +164,10 @@ module _ (c : Coder) (d : Direction) (starts : ℕ) (sound : Sound c) (k : ℕ) 
         | no e ↦ rw (other s t l m e) (r .done s t l m (omega arith))
       ];
       left = λ s t l m n. rw (other s t l m (λ e. omega arith)) (r .left s t l m (omega arith));
-      sought = λ s t l m n f. elim (ℕ-discrete (16 * s + t) a) [
-        | yes e ↦ let z = row s t m e in rw (z .0, z .1) (seen .sought (rw (z .0, z .1) at f))
-        | no e ↦ rw (edges s t e) (r .sought s t l m (omega arith) (sym (other s t l m e) ∙ f))
+      seeking = λ s t l m f. elim (ℕ-discrete (16 * s + t) a) [
+        | yes e ↦ let z = row s t m e in rw (z .0, z .1) (seen .seeking (rw (z .0, z .1) at f))
+        | no e ↦ seeking-same (edges s t e) (r .seeking s t l m (sym (other s t l m e) ∙ f))
       ];
-      edge = λ s t l m n f. elim (ℕ-discrete (16 * s + t) a) [
-        | yes e ↦ let z = row s t m e in rw (z .0, z .1) (seen .edge (rw (z .0, z .1) at f))
-        | no e ↦ subst (λ (g : Edge). 0 < g .x) (sym (edges s t e)) (r .edge s t l m (omega arith) (sym (other s t l m e) ∙ f))
-      ];
-      seeking = λ s t l m n f. let e : 16 * s + t ≡ a → ⊥ = λ e. omega arith in
-          subst (λ (g : Edge). Seeking c d (L k) s t (g .x) (g .y)) (sym (edges s t e))
-          (r .seeking s t l m (omega arith) (sym (other s t l m e) ∙ f));
       changed = seen .changed;
       unchanged = λ g s t l m n f. let h = seen .unchanged g in elim (ℕ-discrete (16 * s + t) a) [
         | yes e ↦ let z = row s t m e in h .1 (rw (z .0, z .1) at f)
@@ -211,8 +203,7 @@ module _ (c : Coder) (d : Direction) (starts : ℕ) (sound : Sound c) (k : ℕ) 
         let g = right-here .shape (omega arith) in
         round-place r (r .shape) (r .kept) (λ s t l m e. refl) (λ s t e. refl) (record {
           right = right-fallen here (λ m. level-fall S d m (a / 16) (a % 16)) right-here (omega arith);
-          sought = λ e. absurd (f e);
-          edge = λ e. absurd (f e);
+          seeking = λ e. absurd (f e);
           changed = r .changed;
           unchanged = λ e. (e, λ z. omega arith);
         })
@@ -221,7 +212,7 @@ module _ (c : Coder) (d : Direction) (starts : ℕ) (sound : Sound c) (k : ℕ) 
       pub seeking-here : {x y : ℕ} → x ≡ getD xs a 0 → y ≡ getD ys a 0 → Seeking c d (Above square k) (a / 16) (a % 16) x y
       seeking-here p q =
           let e : 16 * (a / 16) + a % 16 ≡ a = omega arith in
-          rw (p, q) (seeking-map above-level (rw e at (r .seeking (a / 16) (a % 16) (omega arith) (omega arith) (omega arith) stands)))
+          rw (p, q) (seeking-map above-level (rw e at (r .seeking (a / 16) (a % 16) (omega arith) (omega arith) stands)))
 
       module _ {x y : ℕ} (found : Sought c d (Above square k) (a / 16) (a % 16) (record { x = x; y = y })) where
         abbrev xs′ : List ℕ
@@ -243,8 +234,8 @@ module _ (c : Coder) (d : Direction) (starts : ℕ) (sound : Sound c) (k : ℕ) 
         edge-other : (s t : ℕ) → (16 * s + t ≡ a → ⊥) → edgeAt xs′ ys′ s t ≡ edgeAt xs ys s t
         edge-other s t f = λ i. record { x = getD-set-other xs a (16 * s + t) x 0 f i; y = getD-set-other ys a (16 * s + t) y 0 f i }
 
-        sought-here : Sought c d (L k) (a / 16) (a % 16) (edgeAt xs′ ys′ (a / 16) (a % 16))
-        sought-here = rw edge-here (sought-map level-above above-level found)
+        sought-here : Sought c d (L k) (a / 16) (a % 16) (record { x = x; y = y })
+        sought-here = sought-map level-above above-level found
 
         level-here : L k (a / 16) (a % 16)
         level-here = right-here .stands k (omega arith) (omega arith)
@@ -252,13 +243,12 @@ module _ (c : Coder) (d : Direction) (starts : ℕ) (sound : Sound c) (k : ℕ) 
         pub round-stands : 0 < x → InRound (a + 1) square xs′ ys′ b
         round-stands l =
             let y-some = found .found l in
-            let h = sought-map level-above above-level found .edge (x - 1) (y - 1) (omega arith) (omega arith) in
+            let h = sought-here .edge (x - 1) (y - 1) (omega arith) (omega arith) in
             round-place r (r .shape) kept′ (λ s t l m e. refl) edge-other (record {
               right =
                   right-stands here (λ m. level-fall S d m (a / 16) (a % 16)) right-here low stands
                   (edge-level (a / 16) (a % 16) (x - 1) (y - 1) level-here (h .0) (h .1));
-              sought = λ e. sought-here;
-              edge = λ e. subst (λ (g : Edge). 0 < g .x) (sym edge-here) l;
+              seeking = λ e. seeking-same edge-here (sought-here .seeking);
               changed = r .changed;
               unchanged = λ e. (e, λ z. omega arith);
             })
@@ -273,9 +263,8 @@ module _ (c : Coder) (d : Direction) (starts : ℕ) (sound : Sound c) (k : ℕ) 
               right =
                   rw same
                   (right-falls here (λ m. level-fall S d m (a / 16) (a % 16)) right-here low stands
-                  (none-level (a / 16) (a % 16) y (rw z at (sought-map level-above above-level found .seeking))));
-              sought = λ e. absurd (omega arith);
-              edge = λ e. absurd (omega arith);
+                  (none-level (a / 16) (a % 16) y (rw z at (sought-here .seeking))));
+              seeking = λ e. absurd (omega arith);
               changed = λ e. record { u = a / 16; v = a % 16; row = omega arith; column = omega arith; is = same };
               unchanged = λ e. absurd (true-false refl e);
             })
@@ -293,14 +282,7 @@ module _ (c : Coder) (d : Direction) (starts : ℕ) (sound : Sound c) (k : ℕ) 
         | yes n ↦ r .done u v l m n
         | no n ↦ right-fallen (λ m. L m u v) (λ m. level-fall S d m u v) (r .left u v l m (omega arith)) (past u v l m (omega arith))
       ];
-      sought = λ u v l m f. elim (decLt (16 * u + v) a) [
-        | yes n ↦ r .sought u v l m n f
-        | no n ↦ absurd (omega (arith, past u v l m (omega arith)))
-      ];
-      edge = λ u v l m f. elim (decLt (16 * u + v) a) [
-        | yes n ↦ r .edge u v l m n f
-        | no n ↦ absurd (omega (arith, past u v l m (omega arith)))
-      ];
+      seeking = r .seeking;
     };
     changed = record {
       yes′ = r .changed;

@@ -9,7 +9,7 @@ use Rattle.mealy.specs.Product.{Direction, LevelOf}
 use Rattle.coder.specs.Table.{machineOfCoder, Sound}
 use Rattle.coder.specs.declared.inner.tables.Coder.{Coder}
 use Rattle.chains.specs.Chain.{hasKey}
-use Rattle.product.specs.Depth.{at, endless, Square, Depths}
+use Rattle.product.specs.Depth.{at, endless, Square}
 use Rattle.product.specs.Entries.{nearEnds, farEnds, far, Joins, ArraysOf}
 use Rattle.product.specs.declared.inner.Edge.{Edge}
 
@@ -88,13 +88,14 @@ pub record Before (c : Coder) (d : Direction) (starts : ℕ) (k : ℕ) (square :
       (u v : ℕ) → u < 16 → v < 16 → at square u v ≡ endless →
       Seeking c d (CoderLevel c d starts k) u v (edgeAt xs ys u v .x) (edgeAt xs ys u v .y)
 
--- After it: every depth is right up to level k + 1, and each pair that stands has an edge to a pair of level k.
+-- After it: every depth is right up to level k + 1, and the search has still passed over no edge to a pair of level k.
 pub record After (c : Coder) (d : Direction) (starts : ℕ) (k : ℕ) (square : List (List ℕ)) (xs ys : List ℕ) : Type 0 where
   pub shape : Square square
   pub kept : Kept xs ys
   pub right : (u v : ℕ) → u < 16 → v < 16 → RightTo (λ m. CoderLevel c d starts m u v) (suc k) (at square u v)
-  pub sought : (u v : ℕ) → u < 16 → v < 16 → at square u v ≡ endless → Sought c d (CoderLevel c d starts k) u v (edgeAt xs ys u v)
-  pub edge : (u v : ℕ) → u < 16 → v < 16 → at square u v ≡ endless → 0 < edgeAt xs ys u v .x
+  pub seeking :
+      (u v : ℕ) → u < 16 → v < 16 → at square u v ≡ endless →
+      Seeking c d (CoderLevel c d starts k) u v (edgeAt xs ys u v .x) (edgeAt xs ys u v .y)
 
 -- some pair has the depth x
 pub record Some (square : List (List ℕ)) (x : ℕ) : Type 0 where
@@ -146,24 +147,8 @@ pub record FirstEdges (last : List ℕ) (n : ℕ) (xs ys : List ℕ) : Type 0 wh
   pub first : (u v : ℕ) → u < n → v < 16 → edgeAt xs ys u v .x ≡ getD last u 0
   pub second : (u v : ℕ) → u < n → v < 16 → edgeAt xs ys u v .y ≡ getD last v 0
 
--- each endless pair has an edge to an endless pair
-pub record EndlessEdges (c : Coder) (d : Direction) (square : List (List ℕ)) (xs ys : List ℕ) : Type 0 where
-  pub kept : Kept xs ys
-  pub first : (u v : ℕ) → u < 16 → v < 16 → at square u v ≡ endless → 0 < edgeAt xs ys u v .x
-  pub second : (u v : ℕ) → u < 16 → v < 16 → at square u v ≡ endless → 0 < edgeAt xs ys u v .y
-  pub high : (u v : ℕ) → u < 16 → v < 16 → at square u v ≡ endless → (edgeAt xs ys u v .x ≤ 256) × (edgeAt xs ys u v .y ≤ 256)
-  pub edge :
-      (u v p q : ℕ) → u < 16 → v < 16 → at square u v ≡ endless → edgeAt xs ys u v .x ≡ suc p → edgeAt xs ys u v .y ≡ suc q →
-      Joins c d u v p q × (at square (far d c p) (far d c q) ≡ endless)
-
--- the depths of a direction, with the edges that keep the endless pairs standing
-pub record DepthsFound (c : Coder) (d : Direction) (starts : ℕ) (square : List (List ℕ)) (xs ys : List ℕ) : Type 0 where
-  pub depths : Depths (machineOfCoder c) (StartIn (c .states) starts) d square
-  pub edges : EndlessEdges c d square xs ys
-
-pub record AlongAsked (c : Coder) (near′ far′ xs ys : List ℕ) : Type 0 where
+pub record AlongAsked (c : Coder) (near′ far′ : List ℕ) : Type 0 where
   pub d : Direction
   pub sound : Sound c
   pub near-is : near′ ≡ nearEnds d c
   pub far-is : far′ ≡ farEnds d c
-  pub kept : Kept xs ys

@@ -8,11 +8,11 @@ ghost use lib.ListN.{getD};
 ghost use lib.Dec.{ltb, eqb};
 ghost use Rattle.mealy.specs.Product.{Direction, back as backward, forward as onward};
 ghost use Rattle.coder.specs.Refusal.{Judges};
-ghost use Rattle.coder.specs.Table.{Sound};
-ghost use Rattle.product.specs.Depth.{at};
+ghost use Rattle.coder.specs.Table.{machineOfCoder, Sound};
+ghost use Rattle.product.specs.Depth.{at, Depths};
 ghost use Rattle.product.specs.Entries.{nearEnds, farEnds};
 ghost use Rattle.product.specs.Rounds.{SeekAsked, SeekDone, RoundAsked, RoundDone, StartIn, BothStart};
-ghost use Rattle.product.specs.Rounds.{Started, Kept, FirstEdges, AlongAsked, DepthsFound};
+ghost use Rattle.product.specs.Rounds.{Started, Kept, FirstEdges, AlongAsked};
 use chains::inner::parts;
 use chains::inner::wide;
 use coder::inner::bytes::number;
@@ -179,23 +179,18 @@ fn first_edges(last: &[u16; 64], states: usize, xs: &mut [u16; 256], ys: &mut [u
     }
 }
 
-// The depths in the direction of these near and far ends, in rounds until one changes nothing. The edges that keep the endless pairs
-// standing are left in xs and ys.
-fn along<'a>(
-    c: Coder,
-    near: &'a [u8; 256],
-    far: &'a [u8; 256],
-    starts: u16,
-    xs: &mut [u16; 256],
-    ys: &mut [u16; 256],
-) -> [[u8; 16]; 16]
-    requires { ⌜ AlongAsked c (now near) (now far) (now xs) (now ys) ⌝ }
-    ensures { λ r. ⌜ ((d : Direction) → now (near .entry) ≡ nearEnds d c → now (far .entry) ≡ farEnds d c → DepthsFound c d starts r (now (xs .exit)) (now (ys .exit))) ⌝ }
+// The depths in the direction of these near and far ends, in rounds until one changes nothing. For each pair that stands xs and ys
+// hold the edge that keeps it standing.
+fn along<'a>(c: Coder, near: &'a [u8; 256], far: &'a [u8; 256], starts: u16) -> [[u8; 16]; 16]
+    requires { ⌜ AlongAsked c (now near) (now far) ⌝ }
+    ensures { λ r. ⌜ ((d : Direction) → now (near .entry) ≡ nearEnds d c → now (far .entry) ≡ farEnds d c → Depths (machineOfCoder c) (StartIn (c .states) starts) d r) ⌝ }
 {
     let states = c.states;
     let inputs = c.inputs;
     let chain = chains::inner::by_key(near, states, inputs);
-    first_edges(&chain.last, states, xs, ys);
+    let mut xs = [0u16; 256];
+    let mut ys = [0u16; 256];
+    first_edges(&chain.last, states, &mut xs, &mut ys);
     let mut d = start_square(states, starts);
     let mut k: u8 = 0;
     loop {
@@ -206,8 +201,8 @@ fn along<'a>(
             far,
             states,
             &mut d,
-            xs,
-            ys,
+            &mut xs,
+            &mut ys,
             k,
         ) {
             k += 1;
@@ -218,19 +213,19 @@ fn along<'a>(
 }
 
 // The depths back.
-pub fn back(c: Coder, starts: u16, xs: &mut [u16; 256], ys: &mut [u16; 256]) -> [[u8; 16]; 16]
-    requires { ⌜ Sound c × Kept (now xs) (now ys) ⌝ }
-    ensures { λ r. ⌜ DepthsFound c backward starts r (now (xs .exit)) (now (ys .exit)) ⌝ }
+pub fn back(c: Coder, starts: u16) -> [[u8; 16]; 16]
+    requires { ⌜ Sound c ⌝ }
+    ensures { λ r. ⌜ Depths (machineOfCoder c) (StartIn (c .states) starts) backward r ⌝ }
 {
     let states = parts(false);
-    along(c, &c.next, &states, starts, xs, ys)
+    along(c, &c.next, &states, starts)
 }
 
 // The depths forward.
-pub fn forward(c: Coder, starts: u16, xs: &mut [u16; 256], ys: &mut [u16; 256]) -> [[u8; 16]; 16]
-    requires { ⌜ Sound c × Kept (now xs) (now ys) ⌝ }
-    ensures { λ r. ⌜ DepthsFound c onward starts r (now (xs .exit)) (now (ys .exit)) ⌝ }
+pub fn forward(c: Coder, starts: u16) -> [[u8; 16]; 16]
+    requires { ⌜ Sound c ⌝ }
+    ensures { λ r. ⌜ Depths (machineOfCoder c) (StartIn (c .states) starts) onward r ⌝ }
 {
     let states = parts(false);
-    along(c, &states, &c.next, starts, xs, ys)
+    along(c, &states, &c.next, starts)
 }

@@ -8,21 +8,23 @@ use lib.ListN.{length, getD}
 use lib.Seq.{ext-getD, getD-take, length-take-le}
 use Rattle.mealy.specs.Setting.{Setting}
 use Rattle.mealy.proofs.LeastWindows.{least-unique}
+use Rattle.mealy.proofs.FirstPairs.{first-unique}
 use Rattle.coder.specs.File.{fileRefusal, statesOf, inputsOf, outputsOf, settingOf}
 use Rattle.values.specs.Order.{defaultOrder}
 use Rattle.values.proofs.Orders.{is-order}
-use Rattle.report_text.specs.Report.{coderLine, SecondLine, ReportPromise}
-use Rattle.report_text.specs.Report.SecondLine.{a-window, no-window}
+use Rattle.pair_text.proofs.Same.{text-same}
+use Rattle.report_text.specs.Report.{coderLine, VerdictLines, ReportPromise}
+use Rattle.report_text.specs.Report.VerdictLines.{a-window, no-window}
 use Rattle.report_text.specs.Text.{textOf, Padded}
 use Rattle.report_text.specs.declared.Text.{Text}
 
-second-determined : (S : Setting) (x y : List ℕ) → SecondLine S x → SecondLine S y → x ≡ y
-second-determined S x y (a-window b a p) (a-window b′ a′ q) =
+verdict-determined : (S : Setting) (x y : List ℕ) → VerdictLines S x → VerdictLines S y → x ≡ y
+verdict-determined S x y (a-window b a p) (a-window b′ a′ q) =
     let e = least-unique (is-order defaultOrder) S b a b′ a′ p q in
     rw (e .0, e .1)
-second-determined S x y (a-window b a p) (no-window n) = absurd (n b a (p .works))
-second-determined S x y (no-window n) (a-window b a p) = absurd (n b a (p .works))
-second-determined S x y (no-window n) (no-window m) = refl
+verdict-determined S x y (a-window b a p) (no-window q n h) = absurd (n b a (p .works))
+verdict-determined S x y (no-window p n h) (a-window b a q) = absurd (n b a (q .works))
+verdict-determined S x y (no-window p n h) (no-window q m h′) = text-same p q (first-unique S p q h h′)
 
 text-determined : (f x y : List ℕ) → ReportPromise f x → ReportPromise f y → x ≡ y
 text-determined f x y = go (fileRefusal f) refl
@@ -33,7 +35,7 @@ text-determined f x y = go (fileRefusal f) refl
         let w = rw e at q in
         v .is ∙
         ap (λ (l : List ℕ). coderLine (statesOf f) (inputsOf f) (outputsOf f) ++ l)
-        (second-determined (settingOf f) (v .second) (w .second) (v .right) (w .right)) ∙
+        (verdict-determined (settingOf f) (v .verdict) (w .verdict) (v .right) (w .right)) ∙
         sym (w .is)
     go (suc k) e p q =
         let v = rw e at p in

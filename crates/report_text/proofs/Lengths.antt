@@ -2,12 +2,8 @@
 use Prim.Native.Nat.{ℕ, _<_, _≤_}
 use native.Mathlib.Omega.{arith}
 use lib.ListN.{length, length-append}
-use Rattle.text.specs.Decimal.{decimal}
-use Rattle.text.proofs.Decimals.{decimal-short}
+use Rattle.text.proofs.Decimals.{three-digits}
 use Rattle.report_text.specs.Report.{refusedText, coderLine, windowLine}
-
-pub three-digits : (n : ℕ) → n < 1000 → length (decimal n) ≤ 3
-three-digits n l = decimal-short 2 n l
 
 pub refused-length : (k : ℕ) → k < 1000 → length (refusedText k) ≤ 12
 refused-length k l = simp length-append (omega (arith, three-digits k l))

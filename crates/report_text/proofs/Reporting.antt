@@ -17,17 +17,21 @@ use Rattle.coder.proofs.Accepted.{accepted}
 use Rattle.product.proofs.Depths.{pairs-high}
 use Rattle.values.specs.declared.Window.{Window}
 use Rattle.values.specs.declared.LoopedPair.{LoopedPair}
+use Rattle.values.specs.Pair.{pairOf}
 use Rattle.values.specs.Order.{relationOf, defaultOrder}
 use Rattle.search.specs.Search.{searchRefusal, wanted, Says, WindowReport, PairReport, FoundVerdict, SearchPromise}
 use Rattle.search.specs.declared.SearchResult.{SearchResult}
 use Rattle.search.specs.declared.SearchResult.the-variants.{Refused as RefusedSearch, Found}
 use Rattle.search.specs.declared.Verdict.{Verdict}
+use Rattle.search.proofs.Determined.{pair-short}
 use Rattle.search.specs.declared.Verdict.the-variants.{Least, NoDecoder}
 use Rattle.text.specs.Placed.{Placed}
 use Rattle.text.proofs.Placing.{written-then}
-use Rattle.report_text.specs.Text.{SecondWritten, ReportWritten}
-use Rattle.report_text.specs.Report.{refusedText, coderLine, windowLine, noDecoderLine}
-use Rattle.report_text.specs.Report.SecondLine.{a-window, no-window}
+use Rattle.pair_text.specs.Lines.{pairText, pairBytes, PairAsked}
+use Rattle.pair_text.proofs.Lengths.{text-short}
+use Rattle.report_text.specs.Text.{VerdictWritten, ReportWritten}
+use Rattle.report_text.specs.Report.{refusedText, coderLine, windowLine}
+use Rattle.report_text.specs.Report.VerdictLines.{a-window, no-window}
 use Rattle.report_text.proofs.Lengths.{refused-length, window-length}
 
 -- ---- the reader
@@ -106,14 +110,14 @@ report-refused f {h} {k} e d w =
 
 pub report-accepted :
     (f : List ℕ) {h : Header} {n i o at next : ℕ} {before middle after : List ℕ} → h ≡ headerOf f → h ≡ Counts n i o →
-    Placed before 0 (coderLine n i o) middle at → at ≤ 18 → SecondWritten (settingOf f) middle at after next →
+    Placed before 0 (coderLine n i o) middle at → at ≤ 18 → VerdictWritten (settingOf f) middle at after next →
     ReportWritten f before after next
 report-accepted f {h} {n} {i} {o} e d w l v =
     let c = header-counts f e d in
     let q : coderLine n i o ≡ coderLine (statesOf f) (inputsOf f) (outputsOf f) = rw (← c .states, ← c .inputs, ← c .outputs) in
     record {
-      text = coderLine n i o ++ v .line;
-      right = upon-done _ _ _ (c .none) (record { second = v .line; right = v .right; is = ap (λ (l : List ℕ). l ++ v .line) q });
+      text = coderLine n i o ++ v .lines;
+      right = upon-done _ _ _ (c .none) (record { verdict = v .lines; right = v .right; is = ap (λ (l : List ℕ). l ++ v .lines) q });
       is = written-then w (v .is);
       short = omega (arith, v .short);
     }
@@ -152,6 +156,10 @@ module _ (f before after : List ℕ) (ok : fileRefusal f ≡ 0) (long : wanted �
   unfolding machineOf
   states-are = refl
 
+  inputs-are : machineOf f .inputs ≡ inputsOf f
+  unfolding machineOf
+  inputs-are = refl
+
   pub window-short :
       {r : SearchResult} {v : Verdict} {w : Window} → SearchPromise defaultOrder f before r after → r ≡ Found v → v ≡ Least w →
       (w .before < 1000) × (w .after < 1000)
@@ -160,19 +168,41 @@ module _ (f before after : List ℕ) (ok : fileRefusal f ≡ 0) (long : wanted �
       let w = window-found p e d in
       (omega (arith, w .before-small), omega (arith, w .after-small))
 
-  pub window-second :
+  pub window-lines :
       {r : SearchResult} {v : Verdict} {w : Window} {out out′ : List ℕ} {at next : ℕ} → SearchPromise defaultOrder f before r after → r ≡ Found v →
-      v ≡ Least w → Placed out at (windowLine (w .before) (w .after)) out′ next → SecondWritten (settingOf f) out at out′ next
-  window-second {r} {v} {w} p e d q =
+      v ≡ Least w → Placed out at (windowLine (w .before) (w .after)) out′ next → VerdictWritten (settingOf f) out at out′ next
+  window-lines {r} {v} {w} p e d q =
       let l = window-short p e d in
       record {
-        line = windowLine (w .before) (w .after);
+        lines = windowLine (w .before) (w .after);
         right = a-window _ _ (window-found p e d .least);
         is = q;
         short = omega (arith, q .end, window-length (w .before) (w .after) (l .0) (l .1));
       }
 
-  pub no-decoder-second :
-      {r : SearchResult} {v : Verdict} {w : LoopedPair} {out out′ : List ℕ} {at next : ℕ} → SearchPromise defaultOrder f before r after →
-      r ≡ Found v → v ≡ NoDecoder w → Placed out at noDecoderLine out′ next → SecondWritten (settingOf f) out at out′ next
-  no-decoder-second p e d q = record { line = noDecoderLine; right = no-window (pair-found p e d .none); is = q; short = omega (arith, q .end) }
+  pub pair-length :
+      {r : SearchResult} {v : Verdict} {q : LoopedPair} → SearchPromise defaultOrder f before r after → r ≡ Found v → v ≡ NoDecoder q →
+      length (pairText (pairOf q after)) ≤ pairBytes
+  pair-length {r} {v} {q} p e d =
+      let g = pair-found p e d in
+      let l = accepted f ok .entries .limits in
+      let z : r ≡ Found (NoDecoder q) = cc in
+      text-short (settingOf f) (pairOf q after) (λ s m. m) (rw states-are (l .states-high)) (rw inputs-are (l .inputs-high)) (g .first .valid)
+      (rw states-are (pair-short defaultOrder f before q after (rw z at p)))
+
+  pub pair-asked :
+      {r : SearchResult} {v : Verdict} {q : LoopedPair} {out : List ℕ} {at : ℕ} → SearchPromise defaultOrder f before r after →
+      r ≡ Found v → v ≡ NoDecoder q → at + pairBytes ≤ length out → PairAsked (pairOf q after) at out
+  pair-asked p e d l = record { held = pair-found p e d .first .valid .held; room = omega (arith, pair-length p e d) }
+
+  pub pair-lines :
+      {r : SearchResult} {v : Verdict} {q : LoopedPair} {out out′ : List ℕ} {at next : ℕ} → SearchPromise defaultOrder f before r after →
+      r ≡ Found v → v ≡ NoDecoder q → Placed out at (pairText (pairOf q after)) out′ next → VerdictWritten (settingOf f) out at out′ next
+  pair-lines {r} {v} {q} p e d w =
+      let g = pair-found p e d in
+      record {
+        lines = pairText (pairOf q after);
+        right = no-window (pairOf q after) (g .none) (g .first);
+        is = w;
+        short = omega (arith, w .end, pair-length p e d);
+      }

@@ -1,12 +1,16 @@
--- The report on a coder file: every byte that it prints (document 01, "The report program").
+-- The report on a coder file: every byte that it prints (document 01, "The report program"; document 02, 1/13 and 2/13).
 use Prim.Native.Nat.{ℕ}
 use mathlib.Core.Path.{_≡_}
 use mathlib.Core.List.{List, [], _∷_, _++_}
 use Rattle.mealy.specs.Setting.{Setting}
 use Rattle.mealy.specs.Window.{Works}
 use Rattle.mealy.specs.Order.{Least}
+use Rattle.mealy.specs.LoopedPair.{LoopedPair}
+use Rattle.mealy.specs.First.{First}
 use Rattle.coder.specs.Refusal.{upon}
+use Rattle.text.specs.Ascii.{space, lineFeed}
 use Rattle.text.specs.Decimal.{decimal}
+use Rattle.pair_text.specs.Lines.{pairText}
 use Rattle.coder.specs.File.{fileRefusal, statesOf, inputsOf, outputsOf, settingOf}
 use Rattle.values.specs.Order.{relationOf, defaultOrder}
 
@@ -22,12 +26,6 @@ coderWord = 99 ∷ 111 ∷ 100 ∷ 101 ∷ 114 ∷ 32 ∷ []
 abbrev pub windowWord : List ℕ
 windowWord = 119 ∷ 105 ∷ 110 ∷ 100 ∷ 111 ∷ 119 ∷ 32 ∷ []
 
-abbrev pub space : List ℕ
-space = 32 ∷ []
-
-abbrev pub lineFeed : List ℕ
-lineFeed = 10 ∷ []
-
 -- ---- lines
 
 -- A refused file: the word and the number, and nothing else.
@@ -38,32 +36,28 @@ refusedText k = refusedWord ++ decimal k ++ lineFeed
 abbrev pub coderLine : ℕ → ℕ → ℕ → List ℕ
 coderLine n i o = coderWord ++ decimal n ++ space ++ decimal i ++ space ++ decimal o ++ lineFeed
 
--- The second line, on the window with b letters before and a after ..
+-- The line on the window with b letters before and a after.
 abbrev pub windowLine : ℕ → ℕ → List ℕ
 windowLine b a = windowWord ++ decimal b ++ space ++ decimal a ++ lineFeed
 
--- .. or on a coder without a decoder: "no decoder".
-abbrev pub noDecoderLine : List ℕ
-noDecoderLine = 110 ∷ 111 ∷ 32 ∷ 100 ∷ 101 ∷ 99 ∷ 111 ∷ 100 ∷ 101 ∷ 114 ∷ 10 ∷ []
-
 -- ---- the report
 
--- Which second line is right: that of the least window that works, in the default order (document 02, 1/13), or that of no decoder where
--- no window works.
-pub data SecondLine (S : Setting) : List ℕ → Type 0 where
-  a-window : (b a : ℕ) → Least (relationOf defaultOrder) S b a → SecondLine S (windowLine b a)
-  no-window : ((b a : ℕ) → Works S b a → ⊥) → SecondLine S noDecoderLine
+-- Which lines are right behind the first: that of the least window that works, in the default order (document 02, 1/13); or, where no
+-- window works, those of no decoder with the first looped pair (2/13).
+pub data VerdictLines (S : Setting) : List ℕ → Type 0 where
+  a-window : (b a : ℕ) → Least (relationOf defaultOrder) S b a → VerdictLines S (windowLine b a)
+  no-window : (p : LoopedPair) → ((b a : ℕ) → Works S b a → ⊥) → First S p → VerdictLines S (pairText p)
 
--- The text is this first line, and the right second line behind it.
-pub record TwoLines (S : Setting) (line text : List ℕ) : Type 0 where
-  pub second : List ℕ
-  pub right : SecondLine S second
-  pub is : text ≡ line ++ second
+-- The text is this first line, and the right lines behind it.
+pub record AllLines (S : Setting) (line text : List ℕ) : Type 0 where
+  pub verdict : List ℕ
+  pub right : VerdictLines S verdict
+  pub is : text ≡ line ++ verdict
 
 -- The report on an accepted file.
 abbrev pub AcceptedReport : List ℕ → List ℕ → Type 0
-AcceptedReport f text = TwoLines (settingOf f) (coderLine (statesOf f) (inputsOf f) (outputsOf f)) text
+AcceptedReport f text = AllLines (settingOf f) (coderLine (statesOf f) (inputsOf f) (outputsOf f)) text
 
--- The whole text on a file: the number of its refusal (1 to 6), or the two lines.
+-- The whole text on a file: the number of its refusal (1 to 6), or the lines.
 abbrev pub ReportPromise : List ℕ → List ℕ → Type 0
 ReportPromise f text = upon (fileRefusal f) (λ k. text ≡ refusedText k) (AcceptedReport f text)

@@ -4,22 +4,27 @@ ghost use Prim.Native.Nat.{ℕ, _+_, _<_, _≤_};
 ghost use lib.ListN.{length, getD};
 ghost use Rattle.coder.specs.File.{fileRefusal, settingOf};
 ghost use Rattle.search.specs.Search.{wanted};
+ghost use Rattle.pair_text.specs.Lines.{pairBytes};
 ghost use Rattle.text.specs.Placed.{Placed};
 ghost use Rattle.report_text.specs.Report.{refusedText, coderLine, windowLine};
-ghost use Rattle.report_text.specs.Text.{SecondWritten, ReportWritten};
+ghost use Rattle.report_text.specs.Text.{textBytes, VerdictWritten, ReportWritten};
+use pair_text::inner::no_decoder;
 use text::inner::word;
 use text::inner::word_number;
 
-// 64 bytes, all 0.
-pub fn zeros() -> [u8; 64]
-    ensures { λ r. ⌜ (64 ≡ length r) × ((k : ℕ) → getD r k 0 ≡ 0) ⌝ }
+// How many bytes hold the text of any report.
+pub const BYTES: usize = 3200;
+
+// `BYTES` bytes, all 0.
+pub fn zeros() -> [u8; BYTES]
+    ensures { λ r. ⌜ (textBytes ≡ length r) × ((k : ℕ) → getD r k 0 ≡ 0) ⌝ }
 {
-    [0; 64]
+    [0; BYTES]
 }
 
 // The text on a refused file.
 fn refused(out: &mut [u8], k: usize) -> usize
-    requires { ⌜ (k < 1000) × (64 ≤ length (now out)) ⌝ }
+    requires { ⌜ (k < 1000) × (textBytes ≤ length (now out)) ⌝ }
     ensures { λ r. ⌜ Placed (now (out .entry)) 0 (refusedText k) (now (out .exit)) r ⌝ }
 {
     let a = word_number(out, 0, b"refused ", k);
@@ -28,7 +33,7 @@ fn refused(out: &mut [u8], k: usize) -> usize
 
 // The first line on an accepted file.
 fn coder_line(out: &mut [u8], states: usize, inputs: usize, outputs: usize) -> usize
-    requires { ⌜ (states < 1000) × (inputs < 1000) × (outputs < 1000) × (64 ≤ length (now out)) ⌝ }
+    requires { ⌜ (states < 1000) × (inputs < 1000) × (outputs < 1000) × (textBytes ≤ length (now out)) ⌝ }
     ensures { λ r. ⌜ Placed (now (out .entry)) 0 (coderLine states inputs outputs) (now (out .exit)) r ⌝ }
     ensures { λ r. ⌜ r ≤ 18 ⌝ }
 {
@@ -55,10 +60,10 @@ fn buffer() -> [u8; search::inner::WANTED]
     [0; search::inner::WANTED]
 }
 
-// The second line on an accepted file.
-fn second_line(file: &[u8], out: &mut [u8], at: usize) -> usize
-    requires { ⌜ (fileRefusal (now file) ≡ 0) × (at + 15 ≤ length (now out)) ⌝ }
-    ensures { λ r. ⌜ SecondWritten (settingOf (now (file .entry))) (now (out .entry)) at (now (out .exit)) r ⌝ }
+// The lines behind the first on an accepted file: of the window, or of no decoder and the looped pair.
+fn verdict_lines(file: &[u8], out: &mut [u8], at: usize) -> usize
+    requires { ⌜ (fileRefusal (now file) ≡ 0) × (at + pairBytes ≤ length (now out)) ⌝ }
+    ensures { λ r. ⌜ VerdictWritten (settingOf (now (file .entry))) (now (out .entry)) at (now (out .exit)) r ⌝ }
 {
     let mut letters = buffer();
     let found = search::search(file, &mut letters);
@@ -66,14 +71,14 @@ fn second_line(file: &[u8], out: &mut [u8], at: usize) -> usize
         search::SearchResult::Refused(_) => at,
         search::SearchResult::Found(v) => match v {
             search::Verdict::Least(w) => window_line(out, at, w.before, w.after),
-            search::Verdict::NoDecoder(_) => word(out, at, b"no decoder\n"),
+            search::Verdict::NoDecoder(p) => no_decoder(out, at, p, &letters),
         },
     }
 }
 
 // The report, from the buffer's front on.
 pub fn write(file: &[u8], out: &mut [u8]) -> usize
-    requires { ⌜ 64 ≤ length (now out) ⌝ }
+    requires { ⌜ textBytes ≤ length (now out) ⌝ }
     ensures { λ r. ⌜ ReportWritten (now (file .entry)) (now (out .entry)) (now (out .exit)) r ⌝ }
 {
     let header = coder::counts(file);
@@ -85,7 +90,7 @@ pub fn write(file: &[u8], out: &mut [u8]) -> usize
             outputs,
         } => {
             let at = coder_line(out, states, inputs, outputs);
-            second_line(file, out, at)
+            verdict_lines(file, out, at)
         }
     }
 }

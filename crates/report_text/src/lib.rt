@@ -6,11 +6,11 @@ pub mod inner; // inner.rt: the report's lines; no public calls
 
 // The first `len` bytes are the text, the others 0.
 pub struct Text {
-    pub bytes: [u8; 64],
+    pub bytes: [u8; inner::BYTES],
     pub len: usize,
 }
 
-// What the program `report` prints for a file: the refusal, 1 to 6, or the counts and the window.
+// What the program `report` prints for a file: the refusal, 1 to 6, or the counts and the window, or the looped pair.
 pub fn report(file: &[u8]) -> Text
     ensures { λ r. ⌜ ReportPromise (now (file .entry)) (textOf r) ⌝ }
     ensures { λ r. ⌜ Padded r ⌝ }

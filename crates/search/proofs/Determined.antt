@@ -1,18 +1,25 @@
--- What the promise of the search leaves open: nothing but which looped pair is given, and its bytes.
-use mathlib.Core.Path.{_≡_, refl, sym, ap₂, _∙_}
+-- The promise of the search leaves nothing open: two outcomes for the same arguments are equal.
+use mathlib.Core.Path.{_≡_, refl, sym, ap, ap₂, _∙_}
 use mathlib.Core.Logic.{_↔_}
-use mathlib.Core.List.{List}
-use Prim.Native.Nat.{ℕ, zero, suc}
+use mathlib.Core.List.{List, _++_}
+use Prim.Native.Nat.{ℕ, zero, suc, _*_}
 use native.Mathlib.Omega.{arith}
-use lib.ListN.{length}
+use lib.ListN.{length, take, drop, take-append-drop}
 use lib.Dec.{leb}
 use Rattle.mealy.specs.Setting.{Setting}
 use Rattle.mealy.specs.Window.{Works}
 use Rattle.mealy.specs.Order.{Relation, IsOrder}
+use Rattle.mealy.specs.LoopedPair.{letters, Short}
+use Rattle.mealy.specs.First.{key}
 use Rattle.mealy.proofs.LeastWindows.{least-unique}
-use Rattle.coder.specs.File.{settingOf}
-use Rattle.coder.proofs.Refusals.{upon-done}
+use Rattle.mealy.proofs.FirstPairs.{first-unique}
+use Rattle.mealy.proofs.Plain.{any-closed, any-bounded}
+use Rattle.first_pair.proofs.Bounds.{first-short}
+use Rattle.coder.specs.File.{statesOf, machineOf, settingOf}
+use Rattle.coder.proofs.Accepted.{accepted}
+use Rattle.coder.proofs.Tables.{total}
 use Rattle.values.specs.Window.{window}
+use Rattle.values.specs.Pair.{pairOf, loopedPair}
 use Rattle.values.specs.Order.{relationOf}
 use Rattle.values.specs.declared.Window.{Window}
 use Rattle.values.specs.declared.Order.{Order}
@@ -23,6 +30,7 @@ use Rattle.search.specs.declared.Verdict.{Verdict}
 use Rattle.search.specs.declared.Verdict.the-variants.{Least, NoDecoder}
 use Rattle.search.specs.declared.SearchResult.{SearchResult}
 use Rattle.search.specs.declared.SearchResult.the-variants.{Refused, Found}
+use Rattle.search.proofs.Files.{search-accepted}
 
 -- ---- a search that was not refused
 
@@ -73,60 +81,85 @@ no-decoder-any-order o o′ f before before′ v v′ after after′ h h′ =
     let e′ = no-decoder-exactly o′ f before′ v′ after′ h′ in
     (λ n. e′ .1 (e .0 n), λ n. e .1 (e′ .0 n))
 
--- what is promised of a looped pair does not depend on the order
+-- ---- the looped pair
+
+-- equal keys are equal starts, lengths and letters
+pair-same :
+    (p p′ : LoopedPair) (before after after′ : List ℕ) → length after ≡ length before → length after′ ≡ length before →
+    drop (2 * letters (pairOf p after)) after ≡ drop (2 * letters (pairOf p after)) before →
+    drop (2 * letters (pairOf p′ after′)) after′ ≡ drop (2 * letters (pairOf p′ after′)) before →
+    key (pairOf p after) ≡ key (pairOf p′ after′) → (p ≡ p′) × (after ≡ after′)
+pair-same p p′ before after after′ l l′ d d′ e =
+    let n : letters (pairOf p after) ≡ letters (pairOf p′ after′) = cc in
+    let s : p .s ≡ p′ .s = cc in
+    let t : p .t ≡ p′ .t = cc in
+    let b : p .«back_loop» ≡ p′ .«back_loop» = cc in
+    let i : p .«lead_in» ≡ p′ .«lead_in» = cc in
+    let o : p .«lead_out» ≡ p′ .«lead_out» = cc in
+    let f : p .«forward_loop» ≡ p′ .«forward_loop» = cc in
+    let k : take (2 * letters (pairOf p after)) after ≡ take (2 * letters (pairOf p′ after′)) after′ = cc in
+    let z : loopedPair (p .s) (p .t) (p .«back_loop») (p .«lead_in») (p .«lead_out») (p .«forward_loop») ≡ p′ = rw (s, t, b, i, o, f) in
+    let m = 2 * letters (pairOf p′ after′) in (
+      z,
+      sym (take-append-drop m after) ∙ ap₂ (λ (x y : List ℕ). x ++ y) (rw n at k) (rw n at d ∙ sym d′) ∙ take-append-drop m after′,
+    )
+
+module _ {S : Setting} {p p′ : LoopedPair} {before after after′ : List ℕ} (h : PairReport S p before after)
+    (h′ : PairReport S p′ before after′) where
+  pub pair-determined : (p ≡ p′) × (after ≡ after′)
+  pair-determined =
+      pair-same p p′ before after after′ (h .size) (h′ .size) (h .rest) (h′ .rest)
+      (first-unique S (pairOf p after) (pairOf p′ after′) (h .first) (h′ .first))
+
+-- the pair does not depend on the order
 pub pair-any-order :
-    (o o′ : Order) (f before : List ℕ) (p : LoopedPair) (after : List ℕ) → SearchPromise o f before (Found (NoDecoder p)) after →
-    SearchPromise o′ f before (Found (NoDecoder p)) after
-pair-any-order o o′ f before p after h =
+    (o o′ : Order) (f before : List ℕ) (p p′ : LoopedPair) (after after′ : List ℕ) → SearchPromise o f before (Found (NoDecoder p)) after →
+    SearchPromise o′ f before (Found (NoDecoder p′)) after′ → (p ≡ p′) × (after ≡ after′)
+pair-any-order o o′ f before p p′ after after′ h h′ =
+    pair-determined (found o f before (NoDecoder p) after h .says) (found o′ f before (NoDecoder p′) after′ h′ .says)
+
+-- it keeps both bounds of N × N letters ("Looped pair", the sentence on them)
+pub pair-short :
+    (o : Order) (f before : List ℕ) (p : LoopedPair) (after : List ℕ) → SearchPromise o f before (Found (NoDecoder p)) after →
+    Short (statesOf f) (pairOf p after)
+unfolding machineOf
+pair-short o f before p after h =
     let s = found o f before (NoDecoder p) after h in
-    upon-done _ _ _ (s .accepted) (record { verdict = NoDecoder p; is = refl; says = s .says })
+    let a = search-accepted f (leb wanted (length before)) (s .accepted) .0 in
+    first-short (settingOf f) (any-closed (machineOf f) (total f (accepted f a))) (any-bounded (machineOf f)) (pairOf p after) (s .says .first)
 
 -- ---- two outcomes of one call
-
-module _ (S : Setting) (before : List ℕ) where
-  -- Two verdicts with the buffers after them. Which looped pair is given is left open by document 01 ("Looped pair", the last sentence
-  -- of its first paragraph): of two pairs each is one that the search may give.
-  abbrev pub SameVerdict : Verdict → List ℕ → Verdict → List ℕ → Type 0
-  SameVerdict (Least w) after (Least w′) after′ = (w ≡ w′) × (after ≡ after′)
-  SameVerdict (Least w) after (NoDecoder p′) after′ = ⊥
-  SameVerdict (NoDecoder p) after (Least w′) after′ = ⊥
-  SameVerdict (NoDecoder p) after (NoDecoder p′) after′ = PairReport S p before after × PairReport S p′ before after′
-
-  -- the same for two results
-  abbrev pub SameButPair : SearchResult → List ℕ → SearchResult → List ℕ → Type 0
-  SameButPair (Refused k) after (Refused k′) after′ = (k ≡ k′) × (after ≡ after′)
-  SameButPair (Refused k) after (Found v′) after′ = ⊥
-  SameButPair (Found v) after (Refused k′) after′ = ⊥
-  SameButPair (Found v) after (Found v′) after′ = SameVerdict v after v′ after′
 
 window-same : (w w′ : Window) → w .before ≡ w′ .before → w .after ≡ w′ .after → w ≡ w′
 window-same w w′ e d = ap₂ window e d
 
-verdict-determined :
+pub verdict-determined :
     {R : Relation} → IsOrder R → (S : Setting) (before : List ℕ) (v v′ : Verdict) (after after′ : List ℕ) → Says R S v before after →
-    Says R S v′ before after′ → SameVerdict S before v after v′ after′
+    Says R S v′ before after′ → (v ≡ v′) × (after ≡ after′)
 verdict-determined order S before (Least w) (Least w′) after after′ p q =
     let e = least-unique order S (w .before) (w .after) (w′ .before) (w′ .after) (p .least) (q .least) in
-    (window-same w w′ (e .0) (e .1), p .stays ∙ sym (q .stays))
-verdict-determined order S before (Least w) (NoDecoder p′) after after′ p q = q .none (w .before) (w .after) (p .least .works)
-verdict-determined order S before (NoDecoder p₀) (Least w′) after after′ p q = p .none (w′ .before) (w′ .after) (q .least .works)
-verdict-determined order S before (NoDecoder p₀) (NoDecoder p′) after after′ p q = (p, q)
+    (ap Least (window-same w w′ (e .0) (e .1)), p .stays ∙ sym (q .stays))
+verdict-determined order S before (Least w) (NoDecoder p′) after after′ p q = absurd (q .none (w .before) (w .after) (p .least .works))
+verdict-determined order S before (NoDecoder p₀) (Least w′) after after′ p q = absurd (p .none (w′ .before) (w′ .after) (q .least .works))
+verdict-determined order S before (NoDecoder p₀) (NoDecoder p′) after after′ p q =
+    let e = pair-determined p q in
+    (ap NoDecoder (e .0), e .1)
 
--- Two outcomes that meet the promise for the same arguments, the order among them, are equal but for which looped pair is given, and
--- its bytes.
+-- Two outcomes that meet the promise for the same arguments, the order among them, are equal: result and buffer.
 pub search-determined :
     (o : Order) (f before : List ℕ) (r r′ : SearchResult) (after after′ : List ℕ) → SearchPromise o f before r after →
-    SearchPromise o f before r′ after′ → SameButPair (settingOf f) before r after r′ after′
+    SearchPromise o f before r′ after′ → (r ≡ r′) × (after ≡ after′)
 search-determined o f before r r′ after after′ = go (searchRefusal f (leb wanted (length before))) refl
   where
     go :
         (k : ℕ) → searchRefusal f (leb wanted (length before)) ≡ k → SearchPromise o f before r after →
-        SearchPromise o f before r′ after′ → SameButPair (settingOf f) before r after r′ after′
+        SearchPromise o f before r′ after′ → (r ≡ r′) × (after ≡ after′)
     go zero e p q =
         let x = rw e at p in
         let y = rw e at q in
-        rw (x .is) (rw (y .is) (verdict-determined (is-order o) (settingOf f) before (x .verdict) (y .verdict) after after′ (x .says) (y .says)))
+        let d = verdict-determined (is-order o) (settingOf f) before (x .verdict) (y .verdict) after after′ (x .says) (y .says) in
+        (x .is ∙ ap Found (d .0) ∙ sym (y .is), d .1)
     go (suc k) e p q =
         let x = rw e at p in
         let y = rw e at q in
-        rw (x .is) (rw (y .is) ((refl, x .stays ∙ sym (y .stays))))
+        (x .is ∙ sym (y .is), x .stays ∙ sym (y .stays))

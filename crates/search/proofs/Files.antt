@@ -7,7 +7,7 @@ use lib.Dec.{lit<}
 use Rattle.mealy.specs.Setting.{Setting, Same, Closed}
 use Rattle.mealy.specs.Order.{Relation}
 use Rattle.mealy.proofs.LoopedPairs.{turned-runs, excludes}
-use Rattle.mealy.proofs.SameSettings.{least-same, valid-same}
+use Rattle.mealy.proofs.SameSettings.{least-same, first-same}
 use Rattle.coder.specs.Refusal.{refuse}
 use Rattle.coder.specs.File.{fileRefusal}
 use Rattle.coder.proofs.Refusals.{refuse-not, first-none}
@@ -26,12 +26,11 @@ says-same R e closed (Least w) before after r = record {
   stays = r .stays;
 }
 says-same R {S} {T} e closed (NoDecoder p) before after r =
-    let v = valid-same e (pairOf p after) (r .valid) in
+    let f = first-same e (pairOf p after) (r .first) in
     record {
-      none = excludes T (pairOf p after) v closed;
-      valid = v;
-      turned = turned-runs T (pairOf p after) v;
-      short = rw (e .machine) at (r .short);
+      none = excludes T (pairOf p after) (f .valid) closed;
+      first = f;
+      turned = turned-runs T (pairOf p after) (f .valid);
       size = r .size;
       rest = r .rest;
     }

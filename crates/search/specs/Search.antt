@@ -9,7 +9,8 @@ use Rattle.mealy.specs.Setting.{Setting}
 use Rattle.mealy.specs.Window.{Works}
 use Rattle.mealy.specs.Order.{Relation, Least as LeastOf}
 use Rattle.mealy.specs.Product.{pairs}
-use Rattle.mealy.specs.LoopedPair.{letters, Valid, Short, TurnedRuns}
+use Rattle.mealy.specs.LoopedPair.{letters, TurnedRuns}
+use Rattle.mealy.specs.First.{First}
 use Rattle.coder.specs.Refusal.{refuse, first, upon}
 use Rattle.coder.specs.File.{fileRefusal, settingOf}
 pub use Rattle.loops.specs.Pair.{wanted}
@@ -36,13 +37,12 @@ pub record WindowReport (R : Relation) (S : Setting) (w : Window) (before after 
   pub stays : after ≡ before
 
 -- Demand 3, first and second sentences: no window works, whatever its sides; and the pair in the answer and in the buffer's bytes is
--- valid, within both bounds, and turned k times back and m times forward gives two runs as demanded, for every k and every m. The
--- bytes past its letters stay. Which such pair is given is left open.
+-- the first valid one (document 02, 2/13), and turned k times back and m times forward gives two runs as demanded, for every k and every
+-- m. The bytes past its letters stay. That the pair keeps both bounds of N × N letters is a law, `pair-short` of proofs/Determined.antt.
 pub record PairReport (S : Setting) (p : LoopedPair) (before after : List ℕ) : Type 0 where
   pub none : (b a : ℕ) → Works S b a → ⊥
-  pub valid : Valid S (pairOf p after)
+  pub first : First S (pairOf p after)
   pub turned : (k m : ℕ) → TurnedRuns S (pairOf p after) k m
-  pub short : Short (S .M .states) (pairOf p after)
   pub size : length after ≡ length before
   pub rest : drop (2 * letters (pairOf p after)) after ≡ drop (2 * letters (pairOf p after)) before
 

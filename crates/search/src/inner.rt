@@ -40,12 +40,8 @@ pub fn verdict(
 {
     let states = c.states;
     let inputs = c.inputs;
-    let mut bx = [0u16; 256];
-    let mut by = [0u16; 256];
-    let mut fx = [0u16; 256];
-    let mut fy = [0u16; 256];
-    let backs = product::inner::back(c, starts, &mut bx, &mut by);
-    let forwards = product::inner::forward(c, starts, &mut fx, &mut fy);
+    let backs = product::inner::back(c, starts);
+    let forwards = product::inner::forward(c, starts);
     let chain = chains::inner::by_key(&c.output, states, inputs);
     let mut worst = [0u8; 256];
     let e = least::inner::count_edges(
@@ -62,7 +58,7 @@ pub fn verdict(
         let need = least::inner::needs(&worst);
         return Verdict::Least(least::inner::choose(order, &need));
     }
-    Verdict::NoDecoder(loops::inner::find(c, &bx, &by, &fx, &fy, e, letters))
+    Verdict::NoDecoder(loops::inner::find::find(c, starts, conflicts, letters))
 }
 
 // The verdict on a file that is not refused, the window being the least in the order.

@@ -5,7 +5,8 @@ use values::Order;
 
 pub mod inner; // inner.rt: what the crates above call on checked bytes; no public calls
 
-// The least window that works, in the order of the search, or a looped pair that excludes every window; the pair's letters lie in the lent buffer.
+// The least window that works, in the order of the search, or the first looped pair, which excludes every window; its letters lie in the
+// lent buffer.
 pub enum Verdict {
     Least(values::Window),
     NoDecoder(values::LoopedPair),
@@ -17,8 +18,7 @@ pub enum SearchResult {
     Found(Verdict),
 }
 
-// Finds the least window that works for a coder in the default order, or a looped pair where none does. Refusals 1 to 6, 11. Which looped
-// pair is given is left open.
+// Finds the least window that works for a coder in the default order, or the first looped pair where none does. Refusals 1 to 6, 11.
 pub fn search(file: &[u8], letters: &mut [u8]) -> SearchResult
     ensures { λ r. ⌜ SearchPromise defaultOrder (now (file .entry)) (now (letters .entry)) r (now (letters .exit)) ⌝ }
 {

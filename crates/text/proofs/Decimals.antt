@@ -86,6 +86,9 @@ decimal-short k n l = rw (length-decimal n) (short k n l)
           omega (arith, places-more n (omega arith), short k (n / 10) (omega arith))
     ]
 
+pub three-digits : (n : ℕ) → n < 1000 → length (decimal n) ≤ 3
+three-digits n l = decimal-short 2 n l
+
 -- ---- digit by digit
 
 glyph-digit : (d : ℕ) → d < 10 → glyph d ≡ 48 + d

@@ -223,7 +223,8 @@ demanded o f before v after p =
     let says : Says (relationOf o) (settingOf f) v before after = found o f before v after p .says in
     record {
       exactly = no-decoder-exactly o f before v after p;
-      valid = λ q e. let s : Says (relationOf o) (settingOf f) (NoDecoder q) before after = rw e at says in s .valid;
+      valid = λ q e. let s : Says (relationOf o) (settingOf f) (NoDecoder q) before after = rw e at says in s .first .valid;
+      first = λ q e. let s : Says (relationOf o) (settingOf f) (NoDecoder q) before after = rw e at says in s .first;
       turned = λ q e. let s : Says (relationOf o) (settingOf f) (NoDecoder q) before after = rw e at says in s .turned;
       works = λ w e. let s : Says (relationOf o) (settingOf f) (Least w) before after = rw e at says in s .least .works;
       no-later = λ w e b a h.

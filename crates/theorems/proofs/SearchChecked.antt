@@ -35,7 +35,7 @@ pub search-checked :
 unfolding machineOf checkRefusal
 search-checked o f before p after r s c =
     let h = found o f before (NoDecoder p) after s in
-    let v = h .says .valid in
+    let v = h .says .first .valid in
     let n = 2 * letters (pairOf p after) in
     let long = length-take-le n after (v .held) in
     let fine : checkRefusal f (pairOf p (take n after)) true ≡ 0 =

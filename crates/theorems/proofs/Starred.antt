@@ -2,15 +2,18 @@
 use mathlib.Core.Path.{_≡_, refl, sym, ap, ap₂, _∙_}
 use mathlib.Core.Bool.{Bool, true, false, _&&_}
 use mathlib.Core.List.{List, [], _∷_, _++_}
-use Prim.Native.Nat.{ℕ, _≤_, _<_}
+use Prim.Native.Nat.{ℕ, _*_, _≤_, _<_}
 use native.Mathlib.Omega.{arith}
-use lib.ListN.{length, getD, drop}
+use lib.ListN.{length, getD, take, drop, take-append-drop}
+use lib.Seq.{take-all}
 use lib.Dec.{leb, eqb}
 use borrow.Author.Tests.{eqb-true, le-leb}
 use lib.Count.{leadingZeros}
 use Rattle.mealy.specs.Machine.{outs, end}
 use Rattle.mealy.specs.Order.{Least as LeastOf}
-use Rattle.mealy.specs.LoopedPair.{LoopedPair, Valid}
+use Rattle.mealy.specs.LoopedPair.{letters}
+use Rattle.mealy.specs.First.{First}
+use Rattle.mealy.proofs.FirstPairs.{first-unique}
 use Rattle.mealy.specs.Answer.{byteOf}
 use Rattle.mealy.specs.Index.{windowAt}
 use Rattle.mealy.proofs.Indices.{length-window}
@@ -28,6 +31,7 @@ use Rattle.running.specs.Run.{runRefusal, runRefusalIn}
 use Rattle.running.specs.declared.RunResult as run-result
 use Rattle.values.specs.Window.{window, size}
 use Rattle.values.specs.Order.{relationOf}
+use Rattle.values.specs.Pair.{pairOf, loopedPair}
 use Rattle.values.specs.declared.Order.{Order}
 use Rattle.values.proofs.Orders.{is-order}
 use Rattle.values.specs.declared.Window.{Window}
@@ -56,7 +60,7 @@ use Rattle.checker.specs.Check.{checkRefusal, CheckedRight}
 use Rattle.theorems.specs.Starred as claimed
 use Rattle.theorems.specs.Starred.{Claim, Case, Holds, AllHold, AllCases, starred}
 use Rattle.theorems.proofs.SearchChecked.{yes-only}
-use Rattle.theorems.proofs.Tests.{sameList, same-list, allWords, agree, worksTest, laterOrFails, leastTest, least-test, closesTest, validTest, valid-test, differentTest, different-test}
+use Rattle.theorems.proofs.Tests.{sameList, same-list, allWords, agree, worksTest, laterOrFails, leastTest, least-test, closesTest, validTest, noEarlier, firstTest, first-size, first-test, differentTest, different-test}
 
 -- ---- the test of a claim
 
@@ -89,7 +93,7 @@ entryByte f n b k = byteOf (meaning (decoded (coderOf f) (startsOf f) (windowAt 
 unfoldable test : List ℕ → Claim → Bool
 test f (claimed.counts n i o) = eqb (statesOf f) n && (eqb (inputsOf f) i && eqb (outputsOf f) o)
 test f (claimed.window o b a) = leastTest (machineOf f) o b a
-test f (claimed.no-decoder p) = validTest (machineOf f) p && eqb (checkRefusal f p true) 0
+test f (claimed.no-decoder s t bytes) = firstTest (machineOf f) s t bytes && eqb (checkRefusal f (claimed.pair s t bytes) true) 0
 test f claimed.different-outputs = differentTest (machineOf f)
 test f (claimed.answer b a w v) =
     eqb (windowRefusal f (window b a) w true) 0 && sameAnswer (decoded (coderOf f) (startsOf f) w b) v
@@ -125,22 +129,41 @@ module _ (f : List ℕ) (z : fileRefusal f ≡ 0) where
       go (NoDecoder q) e s = absurd (s .none b a (least .works))
 
   no-decoder-holds :
-      (p : LoopedPair) → Valid (settingOf f) p → checkRefusal f p true ≡ 0 → Holds f (claimed.no-decoder p)
-  no-decoder-holds p v e = (
-    (λ o before r after l s. let h = searched o before r after l s in go o r (h .verdict) (h .is) before after (h .says)),
+      (s t : ℕ) (bytes : List ℕ) → First (settingOf f) (claimed.pair s t bytes) → length bytes ≡ 6 →
+      checkRefusal f (claimed.pair s t bytes) true ≡ 0 → Holds f (claimed.no-decoder s t bytes)
+  no-decoder-holds s t bytes first six e = (
+    (λ o before r after l p. let h = searched o before r after l p in go o r (h .verdict) (h .is) before after (h .says)),
     λ r c.
-        let g : CheckedRight f p r = rw e at c in
-        yes-only (g .answer) (g .is) (λ no. g .no′ no v),
+        let g : CheckedRight f (claimed.pair s t bytes) r = rw e at c in
+        yes-only (g .answer) (g .is) (λ no. g .no′ no (first .valid)),
   )
     where
       go :
           (o : Order) (r : SearchResult) (u : Verdict) → r ≡ Found u → (before after : List ℕ) →
           Says (relationOf o) (settingOf f) u before after →
-          (q : values.LoopedPair) × (r ≡ Found (NoDecoder q))
-      go o r (Least w) e before after s =
+          (r ≡ Found (NoDecoder (loopedPair s t 1 0 0 1))) × (after ≡ bytes ++ drop (length bytes) before)
+      go o r (Least w) d before after h =
           absurd
-          (excludes (settingOf f) p v (any-closed (machineOf f) (total f (accepted f z))) (w .before) (w .after) (s .least .works))
-      go o r (NoDecoder q) e before after s = (q, e)
+          (excludes (settingOf f) (claimed.pair s t bytes) (first .valid) (any-closed (machineOf f) (total f (accepted f z))) (w .before) (w .after)
+          (h .least .works))
+      go o r (NoDecoder q) d before after h =
+          let k = first-unique (settingOf f) (pairOf q after) (claimed.pair s t bytes) (h .first) first in
+          let n : letters (pairOf q after) ≡ 3 = cc in
+          let m : 2 * letters (pairOf q after) ≡ length bytes = omega arith in
+          let own : take 6 bytes ≡ bytes = take-all 6 bytes (omega arith) in
+          let front : take (2 * letters (pairOf q after)) after ≡ take 6 bytes = cc in
+          let e₁ : q .s ≡ s = cc in
+          let e₂ : q .t ≡ t = cc in
+          let e₃ : q .«back_loop» ≡ 1 = cc in
+          let e₄ : q .«lead_in» ≡ 0 = cc in
+          let e₅ : q .«lead_out» ≡ 0 = cc in
+          let e₆ : q .«forward_loop» ≡ 1 = cc in
+          let same : loopedPair (q .s) (q .t) (q .«back_loop») (q .«lead_in») (q .«lead_out») (q .«forward_loop») ≡ loopedPair s t 1 0 0 1 =
+          rw (e₁, e₂, e₃, e₄, e₅, e₆) in (
+            d ∙ ap (λ (x : values.LoopedPair). Found (NoDecoder x)) same,
+            sym (take-append-drop (2 * letters (pairOf q after)) after) ∙
+                ap₂ (λ (x y : List ℕ). x ++ y) (front ∙ own) (h .rest ∙ ap (λ (j : ℕ). drop j before) m),
+          )
 
   answer-holds :
       (b a : ℕ) (received : List ℕ) (v : Answer) → windowRefusal f (window b a) received true ≡ 0 →
@@ -190,9 +213,9 @@ module _ (f : List ℕ) (z : fileRefusal f ≡ 0) where
       let u = both-true (eqb (inputsOf f) i) (eqb (outputsOf f) o) (t .1) in
       λ r p. rw (eqb-true (statesOf f) n (t .0), eqb-true (inputsOf f) i (u .0), eqb-true (outputsOf f) o (u .1)) at (rw z at p)
   claim-holds (claimed.window o b a) e = window-holds o b a (least-test (machineOf f) o b a (total f (accepted f z)) e)
-  claim-holds (claimed.no-decoder p) e =
-      let t = both-true (validTest (machineOf f) p) (eqb (checkRefusal f p true) 0) e in
-      no-decoder-holds p (valid-test (machineOf f) p (t .0)) (eqb-true _ _ (t .1))
+  claim-holds (claimed.no-decoder s t bytes) e =
+      let u = both-true (firstTest (machineOf f) s t bytes) (eqb (checkRefusal f (claimed.pair s t bytes) true) 0) e in
+      no-decoder-holds s t bytes (first-test (machineOf f) s t bytes (u .0)) (first-size (machineOf f) s t bytes (u .0)) (eqb-true _ _ (u .1))
   claim-holds claimed.different-outputs e = different e
   claim-holds (claimed.answer b a w v) e =
       let d = decoded (coderOf f) (startsOf f) w b in
@@ -234,7 +257,7 @@ cases-hold (c ∷ cs) e =
     (z, claims-hold (c .file) z (c .claims) (u .0), cases-hold cs (u .1))
 
 passed : testCases starred ≡ true
-unfolding test checkRefusal windowRefusal tableRefusal runRefusal sidesRefusal leastTest laterOrFails worksTest agree allWords validTest closesTest differentTest allBelow fileRefusal entriesRefusal inRange within entryInRange machineOf entryOf coderOf table tableAt decoded pass added add contribution gather unionOf answerOf leadingZeros hasKey isEntry over windowAt
+unfolding test checkRefusal windowRefusal tableRefusal runRefusal sidesRefusal leastTest laterOrFails worksTest agree allWords noEarlier firstTest validTest closesTest differentTest allBelow fileRefusal entriesRefusal inRange within entryInRange machineOf entryOf coderOf table tableAt decoded pass added add contribution gather unionOf answerOf leadingZeros hasKey isEntry over windowAt
 passed = refl
 
 -- every starred case: its file is accepted, and all that is claimed of it holds

@@ -1,25 +1,31 @@
 -- Computed tests of windows, pairs and answers, and laws from each test to what it shows.
-use mathlib.Core.Path.{_≡_, refl, ap, ap₂}
+use mathlib.Core.Path.{_≡_, refl, sym, ap, ap₂, _∙_}
 use mathlib.Core.Bool.{Bool, true, false, not, _&&_, cond}
 use mathlib.Core.Logic.{_≢_}
 use mathlib.Core.List.{List, [], _∷_}
 use Prim.Native.Nat.{ℕ, zero, suc, _+_, _-_, _*_, _<_}
 use native.Mathlib.Omega.{arith}
-use lib.ListN.{length, getD}
+use native.Mathlib.Decide.{ℕ-discrete}
+use lib.ListN.{length, getD, take}
+use lib.Seq.{take-all, length-take-le}
 use lib.Dec.{ltb, leb, eqb}
-use borrow.Author.Tests.{ltb-true, leb-true, eqb-true, eqb-false, eq-eqb, ne-eqb, not-true}
+use borrow.Author.Tests.{ltb-true, leb-true, eqb-true, eqb-false, lt-ltb, le-leb, eq-eqb, ne-eqb, not-true}
 use Rattle.mealy.specs.Machine.{Machine, outs, end, Letters, Total}
 use Rattle.mealy.specs.Setting.{anyState}
 use Rattle.mealy.specs.Window.{Works}
 use Rattle.mealy.specs.Order.{Least}
 use Rattle.mealy.specs.Product.{Direction, back, forward, Settled, pairs}
 use Rattle.mealy.specs.LoopedPair.{LoopedPair, Run, first, second, letterAt, lettersFrom, mark, unlooped, letters, startOf, runInputs, Valid}
+use Rattle.mealy.specs.First.{Lexicographic, key, First}
+use Rattle.mealy.proofs.PairBytes.{withBytes, valid-letters, valid-cut}
 use Rattle.mealy.proofs.Plain.{works↔same-letter, any-start, any-bounded, any-closed}
 use Rattle.mealy.proofs.Settling.{settled-by}
 use Rattle.mealy.proofs.LeastWindows.{least-within}
 use Rattle.coder.specs.Refusal.{allBelow, lettersBelow}
 use Rattle.coder.proofs.Refusals.{true-false, both-true, all-at, letters-below}
 use Rattle.values.specs.Window.{window}
+use Rattle.theorems.specs.Starred.{pair}
+use Rattle.theorems.proofs.RoundTrip.{letters-test}
 use Rattle.values.specs.Order.{relationOf, noLater}
 use Rattle.values.specs.declared.Order.{Order}
 use Rattle.values.proofs.Orders.{is-order, no-later}
@@ -217,6 +223,125 @@ module _ (M : Machine) (p : LoopedPair) where
         back-closed = λ r. run r .back-closed;
         forward-closed = λ r. run r .forward-closed;
       }
+
+  -- and the other way round
+  runs-closed : Valid (anyState M) p → (r : Run) → closesTest r ≡ true
+  unfolding closesTest
+  runs-closed v r =
+      rw (
+        lt-ltb (startOf p r) (M .states) (v .start r),
+        letters-test (M .inputs) (runInputs p r) (v .below r),
+        eq-eqb (end M (startOf p r) (lettersFrom p r 0 (p .back-loop))) (startOf p r) (v .back-closed r),
+        eq-eqb (end M (startOf p r) (runInputs p r)) (end M (startOf p r) (lettersFrom p r 0 (unlooped p))) (v .forward-closed r),
+      )
+
+  pub test-valid : Valid (anyState M) p → validTest ≡ true
+  unfolding validTest
+  test-valid v =
+      let same : sameList (outs M (p .s) (runInputs p first)) (outs M (p .t) (runInputs p second)) ≡ true =
+      rw (v .outputs) (list-same (outs M (p .t) (runInputs p second))) in
+      rw (
+        le-leb (2 * letters p) (length (p .bytes)) (v .held),
+        lt-ltb 0 (p .back-loop) (v .back-letter),
+        lt-ltb 0 (p .forward-loop) (v .forward-letter),
+        same,
+        ne-eqb (letterAt p first (mark p)) (letterAt p second (mark p)) (v .conflict),
+        runs-closed v first,
+        runs-closed v second,
+      )
+
+-- ---- the first pair, of three letters
+
+abbrev pub lexicographicTest : List ℕ → List ℕ → Bool
+lexicographicTest [] ys = true
+lexicographicTest (x ∷ xs) [] = false
+lexicographicTest (x ∷ xs) (y ∷ ys) = cond (eqb x y) (lexicographicTest xs ys) (ltb x y)
+
+lexicographic-test : (xs ys : List ℕ) → lexicographicTest xs ys ≡ true → Lexicographic xs ys
+lexicographic-test [] ys e = tt
+lexicographic-test (x ∷ xs) [] e = absurd (true-false e refl)
+lexicographic-test (x ∷ xs) (y ∷ ys) e = elim (ℕ-discrete x y) [
+  | yes q ↦ (omega arith, λ _. lexicographic-test xs ys (rw (eq-eqb x y q) at e))
+  | no q ↦ (let l : x < y = ltb-true x y (rw (ne-eqb x y q) at e) in omega arith, λ f. absurd (q f))
+]
+
+module _ (M : Machine) (s t : ℕ) (bytes : List ℕ) where
+  -- another pair of three letters is not valid, or comes no earlier
+  unfoldable pub noEarlier : ℕ → ℕ → List ℕ → Bool
+  noEarlier s′ t′ w = cond (validTest M (pair s′ t′ w)) (lexicographicTest (s ∷ t ∷ bytes) (s′ ∷ t′ ∷ w)) true
+
+  unfoldable pub firstTest : Bool
+  firstTest =
+      validTest M (pair s t bytes) &&
+      (eqb (length bytes) 6 && allBelow (M .states) (λ s′. allBelow (M .states) (λ t′. allWords (M .inputs) 6 (noEarlier s′ t′))))
+
+  module _ (e : firstTest ≡ true) where
+    record Parts : Type 0 where
+      valid : validTest M (pair s t bytes) ≡ true
+      size : length bytes ≡ 6
+      others : allBelow (M .states) (λ s′. allBelow (M .states) (λ t′. allWords (M .inputs) 6 (noEarlier s′ t′))) ≡ true
+
+    parts : Parts
+    unfolding firstTest
+    parts =
+        let o = allBelow (M .states) (λ s′. allBelow (M .states) (λ t′. allWords (M .inputs) 6 (noEarlier s′ t′))) in
+        let x = both-true (validTest M (pair s t bytes)) (eqb (length bytes) 6 && o) e in
+        let y = both-true (eqb (length bytes) 6) o (x .1) in
+        record { valid = x .0; size = eqb-true _ _ (y .0); others = y .1 }
+
+    pub first-size : length bytes ≡ 6
+    first-size = parts .size
+
+    -- another valid pair of three letters, with those bytes alone
+    no-earlier :
+        (s′ t′ : ℕ) (w : List ℕ) → Valid (anyState M) (pair s′ t′ w) → Letters (M .inputs) w → length w ≡ 6 →
+        Lexicographic (s ∷ t ∷ bytes) (s′ ∷ t′ ∷ w)
+    unfolding noEarlier
+    no-earlier s′ t′ w v l n =
+        let x = all-at (M .states) (λ a. allBelow (M .states) (λ b. allWords (M .inputs) 6 (noEarlier a b))) (parts .others) s′ (v .start first) in
+        let y = all-at (M .states) (λ b. allWords (M .inputs) 6 (noEarlier s′ b)) x t′ (v .start second) in
+        let z = words-at (M .inputs) 6 (noEarlier s′ t′) y w l n in
+        lexicographic-test (s ∷ t ∷ bytes) (s′ ∷ t′ ∷ w) (rw (test-valid M (pair s′ t′ w) v) at z)
+
+    -- a valid pair with three letters in all has one in each loop and none between them and the mark
+    three-letters :
+        (q : LoopedPair) → Valid (anyState M) q → (n : ℕ) → 2 * letters q ≡ n → letters q ≡ 3 →
+        Lexicographic (s ∷ t ∷ bytes) (q .s ∷ q .t ∷ take n (q .bytes))
+    three-letters q v n f d =
+        let b = v .back-letter in
+        let c = v .forward-letter in
+        let e₁ : q .back-loop ≡ 1 = omega arith in
+        let e₂ : q .lead-in ≡ 0 = omega arith in
+        let e₃ : q .lead-out ≡ 0 = omega arith in
+        let e₄ : q .forward-loop ≡ 1 = omega arith in
+        let cut : Valid (anyState M) (withBytes q (take n (q .bytes))) = rw f at (valid-cut (anyState M) q v) in
+        no-earlier (q .s) (q .t) (take n (q .bytes)) (three-as e₁ e₂ e₃ e₄ cut) (rw f at (valid-letters (anyState M) q v))
+        (length-take-le n (q .bytes) (omega (arith, v .held)) ∙ omega arith)
+      where
+        three-as :
+            {s′ t′ bl li lo fl : ℕ} {w : List ℕ} → bl ≡ 1 → li ≡ 0 → lo ≡ 0 → fl ≡ 1 →
+            Valid (anyState M) (record { s = s′; t = t′; back-loop = bl; lead-in = li; lead-out = lo; forward-loop = fl; bytes = w }) →
+            Valid (anyState M) (pair s′ t′ w)
+        three-as e₁ e₂ e₃ e₄ h = rw (e₁, e₂, e₃, e₄) at h
+
+    pub first-test : First (anyState M) (pair s t bytes)
+    first-test = record { valid = valid-test M (pair s t bytes) (parts .valid); first = go }
+      where
+        go : (q : LoopedPair) → Valid (anyState M) q → Lexicographic (key (pair s t bytes)) (key q)
+        go q v =
+            let b = v .back-letter in
+            let c = v .forward-letter in
+            let own : take 6 bytes ≡ bytes = take-all 6 bytes (omega (arith, parts .size)) in (
+              omega arith,
+              λ e₀.
+                  let z = three-letters q v (2 * letters q) refl (sym e₀) in (
+                    z .0,
+                    λ e₁. (
+                      z .1 e₁ .0,
+                      λ e₂. (omega arith, λ _. (omega arith, λ _. (omega arith, λ _. (omega arith, λ _. rw own (z .1 e₁ .1 e₂))))),
+                    ),
+                  ),
+            )
 
 -- ---- outputs of equal states
 

@@ -13,6 +13,7 @@ use Rattle.mealy.specs.Answer.{NoRun, Alone, Two, Answers, byteOf}
 use Rattle.mealy.specs.Index.{windowAt}
 use Rattle.mealy.specs.LoopedPair as mealy
 use Rattle.mealy.specs.LoopedPair.{Valid, TurnedRuns}
+use Rattle.mealy.specs.First.{First}
 use Rattle.coder.specs.Refusal.{upon}
 use Rattle.coder.specs.File.{statesOf, inputsOf, outputsOf, entriesOf, headerOf, EntriesPart, machineOf, settingOf}
 use Rattle.coder.specs.declared.Header.{Header}
@@ -181,6 +182,8 @@ pub record Demanded (o : Order) (f : List ℕ) (v : Verdict) (buffer : List ℕ)
   -- second sentence: the pair is valid, and its two runs are as demanded for every k and every m
   pub valid : (p : LoopedPair) → v ≡ NoDecoder p → Valid (settingOf f) (pairOf p buffer)
   pub turned : (p : LoopedPair) → v ≡ NoDecoder p → (k m : ℕ) → TurnedRuns (settingOf f) (pairOf p buffer) k m
+  -- which pair, as document 02, 2/13, settles it: the first of all that are valid, whatever their lengths
+  pub first : (p : LoopedPair) → v ≡ NoDecoder p → First (settingOf f) (pairOf p buffer)
   -- third sentence: the window works, and comes no later than any other that works
   pub works : (w : Window) → v ≡ Least w → Works (settingOf f) (w .before) (w .after)
   pub no-later : (w : Window) → v ≡ Least w → (b a : ℕ) → Works (settingOf f) b a → NoLater o w b a

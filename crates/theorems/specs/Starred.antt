@@ -1,6 +1,6 @@
 -- The starred cases of document 01 ("Example coders"): one table of coder files and what is claimed of each; the windows in both orders,
--- with the one of coder G that document 02, 1/13, names. A claim on a call says that every outcome that the call promises on this file is
--- the one named; of a "no decoder" the pair is open.
+-- with the one of coder G that document 02, 1/13, names, and the first looped pairs, with the one of coder C that 2/13 names. A claim on a
+-- call says that every outcome that the call promises on this file is the one named.
 use Prim.Native.Nat.{ℕ, _≤_, _<_}
 use mathlib.Core.Path.{_≡_}
 use mathlib.Core.Logic.{_≢_}
@@ -18,7 +18,7 @@ use Rattle.values.specs.Window as values
 use Rattle.values.specs.Order.{defaultOrder}
 use Rattle.values.specs.declared.Order.{Order}
 use Rattle.values.specs.declared.Order.the-variants.{FewestLetters}
-use Rattle.values.specs.declared.LoopedPair.{LoopedPair}
+use Rattle.values.specs.Pair.{loopedPair}
 use Rattle.fitting.specs.declared.Answer.{Answer}
 use Rattle.fitting.specs.declared.Answer.the-variants.{Letter, None, Several}
 use Rattle.decoder.specs.Window.{WindowPromise}
@@ -40,8 +40,9 @@ pub data Claim : Type 0 where
   counts : ℕ → ℕ → ℕ → Claim
   -- the search in this order reports this window
   window : Order → ℕ → ℕ → Claim
-  -- the search in any order says "no decoder", and the checker says yes to this pair
-  no-decoder : mealy.LoopedPair → Claim
+  -- the search in any order says "no decoder" with the looped pair of three letters that has these start states and bytes, and the checker
+  -- says yes to it
+  no-decoder : ℕ → ℕ → List ℕ → Claim
   -- from equal states different letters give different outputs
   different-outputs : Claim
   -- the answer for the letters of a window
@@ -51,16 +52,20 @@ pub data Claim : Type 0 where
   -- a run: start state, input letters, output letters, end state
   run : ℕ → List ℕ → List ℕ → ℕ → Claim
 
+-- a looped pair of three letters: start states, and the bytes of the letters
+abbrev pub pair : ℕ → ℕ → List ℕ → mealy.LoopedPair
+pair s t bytes = record { s = s; t = t; back-loop = 1; lead-in = 0; lead-out = 0; forward-loop = 1; bytes = bytes }
+
 -- What each claim says of a file; of the calls that write, for lent buffers that are long enough.
 abbrev pub Holds : List ℕ → Claim → Type 0
 Holds f (counts n i o) = (r : Header) → r ≡ headerOf f → r ≡ Counts n i o
 Holds f (window o b a) =
     (before : List ℕ) (r : SearchResult) (after : List ℕ) → wanted ≤ length before → SearchPromise o f before r after →
     (r ≡ Found (Least (values.window b a))) × (after ≡ before)
-Holds f (no-decoder p) =
+Holds f (no-decoder s t bytes) =
     ((o : Order) (before : List ℕ) (r : SearchResult) (after : List ℕ) → wanted ≤ length before → SearchPromise o f before r after →
-    (q : LoopedPair) × (r ≡ Found (NoDecoder q))) ×
-    ((r : CheckResult) → CheckPromise f p r → r ≡ Checked true)
+    (r ≡ Found (NoDecoder (loopedPair s t 1 0 0 1))) × (after ≡ bytes ++ drop (length bytes) before)) ×
+    ((r : CheckResult) → CheckPromise f (pair s t bytes) r → r ≡ Checked true)
 Holds f different-outputs =
     (s i j : ℕ) → s < statesOf f → i < inputsOf f → j < inputsOf f → i ≢ j → machineOf f .out s i ≢ machineOf f .out s j
 Holds f (answer b a received v) = (r : WindowResult) → WindowPromise f (values.window b a) received r → r ≡ Answered v
@@ -75,10 +80,6 @@ pub record Case : Type 0 where
   pub file : List ℕ
   pub claims : List Claim
 
--- a looped pair of three letters
-abbrev pub pair : ℕ → ℕ → List ℕ → mealy.LoopedPair
-pair s t bytes = record { s = s; t = t; back-loop = 1; lead-in = 0; lead-out = 0; forward-loop = 1; bytes = bytes }
-
 abbrev pub starred : List Case
 starred =
     -- A, running parity
@@ -89,7 +90,7 @@ starred =
     -- B, one state
     record { file = 1 ∷ 0 ∷ 7 ∷ 1 ∷ 2 ∷ 2 ∷ 0 ∷ 0 ∷ 0 ∷ 1 ∷ []; claims = window defaultOrder 0 0 ∷ window FewestLetters 0 0 ∷ [] } ∷
     -- C, one state, one output letter
-    record { file = 1 ∷ 0 ∷ 7 ∷ 1 ∷ 2 ∷ 1 ∷ 0 ∷ 0 ∷ 0 ∷ 0 ∷ []; claims = no-decoder (pair 0 0 (0 ∷ 0 ∷ 0 ∷ 1 ∷ 0 ∷ 0 ∷ [])) ∷ [] } ∷
+    record { file = 1 ∷ 0 ∷ 7 ∷ 1 ∷ 2 ∷ 1 ∷ 0 ∷ 0 ∷ 0 ∷ 0 ∷ []; claims = no-decoder 0 0 (0 ∷ 0 ∷ 0 ∷ 1 ∷ 0 ∷ 0 ∷ []) ∷ [] } ∷
     -- D, delay
     record {
       file = 1 ∷ 0 ∷ 11 ∷ 2 ∷ 2 ∷ 2 ∷ 0 ∷ 0 ∷ 1 ∷ 0 ∷ 0 ∷ 1 ∷ 1 ∷ 1 ∷ [];
@@ -98,7 +99,7 @@ starred =
     -- E, change detector
     record {
       file = 1 ∷ 0 ∷ 11 ∷ 2 ∷ 2 ∷ 2 ∷ 0 ∷ 0 ∷ 1 ∷ 1 ∷ 0 ∷ 1 ∷ 1 ∷ 0 ∷ [];
-      claims = no-decoder (pair 0 1 (0 ∷ 1 ∷ 0 ∷ 1 ∷ 0 ∷ 1 ∷ [])) ∷ different-outputs ∷ [];
+      claims = no-decoder 0 1 (0 ∷ 1 ∷ 0 ∷ 1 ∷ 0 ∷ 1 ∷ []) ∷ different-outputs ∷ [];
     } ∷
     -- G
     record {
@@ -106,7 +107,7 @@ starred =
       claims = window defaultOrder 2 0 ∷ window FewestLetters 0 1 ∷ answer 0 1 (0 ∷ 0 ∷ []) (Letter 0) ∷ answer 0 1 (0 ∷ 2 ∷ []) (Letter 1) ∷ answer 0 1 (1 ∷ 2 ∷ []) None ∷ answer 0 0 (0 ∷ []) Several ∷ [];
     } ∷
     -- H
-    record { file = 1 ∷ 0 ∷ 11 ∷ 2 ∷ 2 ∷ 2 ∷ 0 ∷ 0 ∷ 0 ∷ 1 ∷ 1 ∷ 0 ∷ 1 ∷ 0 ∷ []; claims = no-decoder (pair 1 1 (0 ∷ 0 ∷ 0 ∷ 1 ∷ 0 ∷ 0 ∷ [])) ∷ [] } ∷
+    record { file = 1 ∷ 0 ∷ 11 ∷ 2 ∷ 2 ∷ 2 ∷ 0 ∷ 0 ∷ 0 ∷ 1 ∷ 1 ∷ 0 ∷ 1 ∷ 0 ∷ []; claims = no-decoder 0 1 (0 ∷ 0 ∷ 0 ∷ 1 ∷ 0 ∷ 0 ∷ []) ∷ [] } ∷
     []
 
 -- The file is accepted and all its claims hold; and so for each case of a list.

@@ -1,4 +1,4 @@
--- `report` meets its contract: the report stands at the front of 64 bytes that were 0.
+-- `report` meets its contract: the report stands at the front of bytes that were 0.
 use Rattle.report_text.proofs.Bytes.{text-promise, text-padded}
 use borrow.Author.Needs.{needs}
 use Rattle.report_text.proofs.report.Statement.{statement}

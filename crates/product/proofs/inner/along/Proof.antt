@@ -12,17 +12,17 @@ use Rattle.product.proofs.inner.along.Statement.{statement}
 use Rattle.product.proofs.inner.along.Tie as tie
 
 abbrev Inv-loop : tie.InvT-loop
-Inv-loop near far starts xs₀ ys₀ c states inputs chain d₀ k₀ xs ys d k =
+Inv-loop near far starts c states inputs chain xs₀ ys₀ d₀ k₀ xs ys d k =
     (k ≤ pairs (c .states)) × ((w : Direction) → near ≡ nearEnds w c → far ≡ farEnds w c → Before c w starts k d xs ys)
 
 abbrev μ-loop : tie.MeasureT-loop
-μ-loop near far starts xs₀ ys₀ c states inputs chain d₀ k₀ xs ys d k = suc maxSide - k
+μ-loop near far starts c states inputs chain xs₀ ys₀ d₀ k₀ xs ys d k = suc maxSide - k
 
 by-key-requires : tie.Need-by-key-requires Inv-loop μ-loop
 by-key-requires c κs = rw (c .pre .near-is) (near-keys _ (c .pre .sound) (c .pre .d))
 
 first-edges-requires : tie.Need-first-edges-requires Inv-loop μ-loop
-first-edges-requires c κs = let p = c .before .before .before .before .before .pre in (p .kept, p .sound .states-high)
+first-edges-requires c κs = (record { firsts = refl; seconds = refl }, c .before .before .before .before .before .pre .sound .states-high)
 
 start-square-requires : tie.Need-start-square-requires Inv-loop μ-loop
 start-square-requires c κs = c .before .before .before .before .before .before .pre .sound .states-high

@@ -1,7 +1,8 @@
 -- `coder_line` meets its contract.
 use Rattle.text.proofs.Placing.{written-then, written-both}
-use Rattle.report_text.specs.Report.{space}
-use Rattle.report_text.proofs.Lengths.{three-digits, coder-length}
+use Rattle.text.specs.Ascii.{space}
+use Rattle.text.proofs.Decimals.{three-digits}
+use Rattle.report_text.proofs.Lengths.{coder-length}
 use borrow.Author.Needs.{needs}
 use native.Mathlib.Omega.{arith}
 use Rattle.report_text.proofs.inner.coder_line.Statement.{statement}

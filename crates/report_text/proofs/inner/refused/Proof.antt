@@ -1,6 +1,6 @@
 -- `refused` meets its contract.
 use Rattle.text.proofs.Placing.{written-then}
-use Rattle.report_text.proofs.Lengths.{three-digits}
+use Rattle.text.proofs.Decimals.{three-digits}
 use borrow.Author.Needs.{needs}
 use native.Mathlib.Omega.{arith}
 use Rattle.report_text.proofs.inner.refused.Statement.{statement}

@@ -1,7 +1,7 @@
 -- `window_line` meets its contract.
 use Rattle.text.proofs.Placing.{written-then, written-both}
-use Rattle.report_text.specs.Report.{space}
-use Rattle.report_text.proofs.Lengths.{three-digits}
+use Rattle.text.specs.Ascii.{space}
+use Rattle.text.proofs.Decimals.{three-digits}
 use borrow.Author.Needs.{needs}
 use native.Mathlib.Omega.{arith}
 use Rattle.report_text.proofs.inner.window_line.Statement.{statement}

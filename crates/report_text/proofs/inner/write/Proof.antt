@@ -1,4 +1,4 @@
--- `write` meets its contract: the reader's refusal, or its counts and the second line.
+-- `write` meets its contract: the reader's refusal, or its counts and the lines of the verdict.
 use Rattle.report_text.proofs.Reporting.{refused-short, header-counts, counts-short, report-refused, report-accepted}
 use borrow.Author.Needs.{needs}
 use native.Mathlib.Omega.{arith}
@@ -27,8 +27,8 @@ coder-line-requires c κs =
     let l = counts-short _ (n .counts .ensures) (h .header2 .given .1) in
     (omega (arith, l), omega (arith, l), omega (arith, l), omega (arith, n .before .before .before .pre))
 
-second-line-requires : tie.Need-second-line-requires
-second-line-requires c κs =
+verdict-lines-requires : tie.Need-verdict-lines-requires
+verdict-lines-requires c κs =
     let d = c .before .before .before in
     let h = d .before .before .before in
     let n = h .before .before in (
@@ -53,7 +53,7 @@ returns-2 c =
     let s = c .before .before in
     let d = s .before .before .before .before in
     let h = d .before .before .before in
-    report-accepted _ (h .before .before .counts .ensures) (h .header2 .given .1) (d .coder-line .ensures .0) (d .coder-line .ensures .1) (s .second-line .ensures)
+    report-accepted _ (h .before .before .counts .ensures) (h .header2 .given .1) (d .coder-line .ensures .0) (d .coder-line .ensures .1) (s .verdict-lines .ensures)
 
 pub write-spec : {M : Type 1} → statement M
 write-spec =
@@ -64,7 +64,7 @@ write-spec =
     refused-requires
     enum-known-header-2
     coder-line-requires
-    second-line-requires
+    verdict-lines-requires
     same-length
     returns
     same-length-2

@@ -1,6 +1,6 @@
 -- `verdict` meets its contract: a window where no conflicting edge is endless on both sides, a looped pair where one is.
 use Rattle.chains.proofs.Entries.{output-keys}
-use Rattle.search.proofs.Verdicts.{choose-asked, window-says, find-from, pair-says}
+use Rattle.search.proofs.Verdicts.{choose-asked, window-says, some-valid, pair-says}
 use Rattle.values.specs.Order.{relationOf}
 use Rattle.values.proofs.Orders.{is-order}
 use borrow.Author.Needs.{needs}
@@ -15,7 +15,7 @@ forward-requires : tie.Need-forward-requires
 forward-requires c κs = search needs
 
 by-key-requires : tie.Need-by-key-requires
-by-key-requires c κs = let s = c .before .before .before .before .before .before .before .before .before in output-keys _ (s .pre .0)
+by-key-requires c κs = output-keys _ (c .before .before .before .before .before .pre .0)
 
 count-edges-requires : tie.Need-count-edges-requires
 count-edges-requires c κs = search needs
@@ -28,10 +28,10 @@ abbrev forwarded : tie.After-count-edges → tie.After-forward
 forwarded d = d .before .before .before .before .before .before .before .before .before .before
 
 abbrev backed : tie.After-count-edges → tie.After-back
-backed d = forwarded d .before .before .before
+backed d = forwarded d .before
 
 abbrev start : tie.After-count-edges → tie.Start
-start d = backed d .before .before .before .before
+start d = backed d .before .before
 
 choose-requires : tie.Need-choose-requires
 choose-requires c κs =
@@ -49,12 +49,11 @@ returns c =
 
 find-requires : tie.Need-find-requires
 find-requires c κs =
-    let d = c .before .before .before .before .before .before in
+    let d = c .before .before in
     let p = start d .pre in
     record {
-      starts = start d .args .starts;
-      conflicts = start d .args .conflicts .now;
-      from = find-from _ _ _ (p .0) (p .1) (backed d .back .ensures) (forwarded d .forward .ensures) (d .count-edges .ensures) (omega arith);
+      sound = p .0;
+      some = some-valid _ _ _ (p .0) (p .1) (backed d .back .ensures) (forwarded d .forward .ensures) (d .count-edges .ensures) (omega arith);
       room = p .2;
     }
 
@@ -63,13 +62,12 @@ same-length c = search needs
 
 returns-2 : tie.Need-returns-2
 returns-2 c =
-    let d = c .before .before .before .before .before .before .before .before .before in
+    let d = c .before .before .before .before .before in
     let p = start d .pre in
     let back = backed d .back .ensures in
     let forward = forwarded d .forward .ensures in
     let found = d .count-edges .ensures in
-    let from = find-from _ _ _ (p .0) (p .1) back forward found (omega arith) in
-    pair-says _ _ _ (p .0) (p .1) back forward found (relationOf (start d .args .order)) _ _ _ (c .before .before .find .ensures _ _ from)
+    pair-says _ _ _ (p .0) (p .1) back forward found (relationOf (start d .args .order)) _ _ _ (c .before .before .find .ensures)
 
 pub verdict-spec : {M : Type 1} → statement M
 verdict-spec =

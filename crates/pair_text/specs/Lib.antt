@@ -1,0 +1,2 @@
+-- What the contracts of the lines on a coder without a decoder cite.
+pub mod Lines
