@@ -31,7 +31,7 @@ extern "C" {
 #endif
 
 /* The version of this header and of the library; make and pkg-config take it from here. */
-#define LOWHENITA_VERSION "1.1"
+#define LOWHENITA_VERSION "1.2"
 
 /* Limits of a coder: states, input letters, output letters; the bytes of its file. */
 #define LOWHENITA_MAX_STATES 16
@@ -134,11 +134,12 @@ size_t lowhenita_run(const uint8_t *file, size_t file_len,
 
 /*
  * Finds of all windows that work the least in the order of least lookahead: the one with fewest letters after the present one and, of
- * several with as many, with fewest before it. Or, where no window works, a looped pair that shows it.
+ * several with as many, with fewest before it. Or, where no window works, the first looped pair, which shows it.
  * Field 0: LOWHENITA_WINDOW; then field 1: letters before the present one, field 2: letters after it; `letters` stays as it was.
  * Field 0: LOWHENITA_LOOPED_PAIR; then fields 1 to 6: the start states s and t, the lengths of back loop, lead-in, lead-out and
  * forward loop; the pair's letters stand at the front of `letters`, two bytes each (first run, second run), the differing letter
- * between lead-in and lead-out. Which looped pair is given is left open; it is valid (lowhenita_check says 1).
+ * between lead-in and lead-out. Of all valid pairs, of any length, it is the one with fewest letters; of several with as few the first by
+ * s, t, the four lengths in this order, and the bytes of the letters. It is valid (lowhenita_check says 1).
  * Refusals, in checking order: 1 to 6, 11 (letters shorter than LOWHENITA_SEARCH_BYTES, or result).
  */
 size_t lowhenita_search(const uint8_t *file, size_t file_len,
