@@ -22,7 +22,7 @@ use Rattle.setting.proofs.Same.{coder-sound, same-setting}
 use Rattle.checker.specs.Check.{checkRefusal, CheckedRight}
 use Rattle.checker.specs.Follow.{CheckOf}
 use Rattle.checker.specs.declared.CheckResult.the-variants.{Checked}
-use Rattle.checker.proofs.Judging.{judges-map}
+use Rattle.coder.proofs.Judging.{judges-map}
 
 pub record CheckAccepted (f : List ℕ) (p : LoopedPair) (fit : Bool) : Type 0 where
   pub file : fileRefusal f ≡ 0

@@ -12,7 +12,7 @@ use Rattle.checker.specs.Check.{checkRefusal, CheckedRight, CheckPromise
 use Rattle.coder.specs.Refusal.{Judges}
 use Rattle.checker.specs.declared.CheckResult.{CheckResult}
 use Rattle.checker.specs.declared.CheckResult.the-variants.{Refused, Checked}
-use Rattle.checker.proofs.Judging.{judges-same, judges-decided}
+use Rattle.coder.proofs.Judging.{judges-same, judges-decided}
 use Rattle.coder.proofs.Refusals.{upon-refused, upon-done}
 use Rattle.checker.proofs.Checking.{right}
 use Rattle.mealy.proofs.PairDecisions.{dec-valid}

@@ -1,5 +1,4 @@
 -- Laws of the pair checker.
-pub mod Judging
 pub mod Following
 pub mod PartsJudged
 pub mod Checking

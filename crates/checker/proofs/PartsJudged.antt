@@ -16,7 +16,7 @@ use Rattle.coder.specs.Refusal.{Judges}
 use Rattle.coder.specs.Table.{machineOfCoder}
 use Rattle.checker.specs.Follow.{FollowAsked, Follows, CheckAsked}
 use Rattle.checker.specs.declared.inner.follow.Followed.{Followed}
-use Rattle.checker.proofs.Judging.{judges-map}
+use Rattle.coder.proofs.Judging.{judges-map}
 
 module _ {next output : List ℕ} {p : LoopedPair} (a : CheckAsked next output p) where
   pub follow-asked :

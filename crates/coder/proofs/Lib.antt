@@ -1,5 +1,6 @@
 -- Laws of the coder file and its tables.
 pub mod Refusals
+pub mod Judging
 pub mod Accepted
 pub mod BigEndian
 pub mod Inverse

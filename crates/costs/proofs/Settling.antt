@@ -1,6 +1,5 @@
 -- Passes over a table of costs: what holds within a pass and after each, and that the costs are least where none falls.
-use mathlib.Core.Path.{_≡_, refl, sym, subst, _∙_}
-use mathlib.Core.Logic.{inl, inr}
+use mathlib.Core.Path.{_≡_, refl, sym, _∙_}
 use mathlib.Core.Bool.{Bool, true, false, true≢false}
 use mathlib.Core.List.{List}
 use Prim.Native.Nat.{ℕ, zero, suc, _+_, _*_, _-_, _≤_, _<_}
@@ -17,8 +16,8 @@ use Rattle.mealy.proofs.Sums.{sum, sum-le}
 use Rattle.first_pair.specs.Reach.{Reach}
 use Rattle.first_pair.specs.Cost.{CostTable, Capped, Cost, Seeds, entry, endless}
 use Rattle.first_pair.specs.Successors.{wordAt, SuccessorsOf}
-use Rattle.costs.specs.Settle.{RowCost, NextCost, PassAsked, CostsIn, Passed, SettleAsked, SettleDone}
-use Rattle.first_pair.proofs.Capping.{capped-map, below-none, below-one}
+use Rattle.costs.specs.Settle.{RowCost, NextCost, PassAsked, CostsIn, PassDone, SettleAsked, SettleDone}
+use Rattle.first_pair.proofs.Capping.{capped-map}
 
 -- ---- the least cost of a pair that follows
 
@@ -176,7 +175,7 @@ module _ {words : List ℕ} {states step low : ℕ} {t₀ : List ℕ} (asked : P
       next = h .holds ended
 
   pub passing-all :
-      {t : List ℕ} {fell : Bool} {a : ℕ} → Passing words states step low t₀ t fell a → a ≡ 0 → Passed words states step low t₀ t fell
+      {t : List ℕ} {fell : Bool} {a : ℕ} → Passing words states step low t₀ t fell a → a ≡ 0 → PassDone words states step low t₀ t fell
   passing-all p e =
       record {
         table = p .table;
@@ -204,7 +203,7 @@ measure t true = suc (sum 256 (λ k. getD t k 0))
 measure t false = sum 256 (λ k. getD t k 0)
 
 measure-less :
-    {words : List ℕ} {states step low : ℕ} {t t′ : List ℕ} (fell′ : Bool) → Passed words states step low t t′ fell′ →
+    {words : List ℕ} {states step low : ℕ} {t t′ : List ℕ} (fell′ : Bool) → PassDone words states step low t t′ fell′ →
     measure t′ fell′ < measure t true
 unfolding measure
 measure-less {t = t} {t′ = t′} true p = less (sum 256 (λ k. getD t′ k 0)) (sum 256 (λ k. getD t k 0)) (p .less refl)
@@ -218,7 +217,7 @@ measure-less {t = t} {t′ = t′} false p =
     less a b l = omega arith
 
 pub settling-less :
-    {words : List ℕ} {states step low : ℕ} {t t′ : List ℕ} {fell fell′ : Bool} → fell ≡ true → Passed words states step low t t′ fell′ →
+    {words : List ℕ} {states step low : ℕ} {t t′ : List ℕ} {fell fell′ : Bool} → fell ≡ true → PassDone words states step low t t′ fell′ →
     measure t′ fell′ < measure t fell
 settling-less {fell′ = fell′} e p = rw e (measure-less fell′ p)
 
@@ -251,7 +250,7 @@ module _ {words : List ℕ} {states step : ℕ} {t₀ : List ℕ} (asked : Settl
       }
 
   pub settling-more :
-      {low : ℕ} {t t′ : List ℕ} {fell fell′ : Bool} → Settling words states step low t₀ t fell → Passed words states step low t t′ fell′ →
+      {low : ℕ} {t t′ : List ℕ} {fell fell′ : Bool} → Settling words states step low t₀ t fell → PassDone words states step low t t′ fell′ →
       Settling words states step low t₀ t′ fell′
   settling-more s p =
       record {

@@ -3,7 +3,7 @@ use Prim.Native.Nat.{ℕ, _+_, _*_, _≤_, _<_}
 use mathlib.Core.Path.{_≡_}
 use mathlib.Core.Bool.{Bool, true, false}
 use mathlib.Core.List.{List}
-use lib.ListN.{length, getD}
+use lib.ListN.{getD}
 use Rattle.mealy.specs.Machine.{Machine}
 use Rattle.mealy.specs.Word.{Has}
 use Rattle.mealy.proofs.Sums.{sum}
@@ -38,7 +38,7 @@ CostsIn n A t = (u v : ℕ) → u < n → v < n → entry t u v < endless → A 
 
 -- What one pass does: each cost is as it was or lower, and is still a cost of its pair, whatever machine has these successors. Where none
 -- fell, no pair costs more than a step and a pair that follows it; where one did, the sum of all costs fell.
-pub record Passed (words : List ℕ) (states step low : ℕ) (t t′ : List ℕ) (fell : Bool) : Type 0 where
+pub record PassDone (words : List ℕ) (states step low : ℕ) (t t′ : List ℕ) (fell : Bool) : Type 0 where
   pub table : CostTable t′
   pub low-least : (k : ℕ) → k < 256 → low ≤ getD t′ k 0
   pub costs :

@@ -16,7 +16,7 @@ use Rattle.chains.specs.Parts.{placePart, placeParts}
 use Rattle.fitting.specs.Tables.{GivenBelow, ByOutput}
 use Rattle.fitting.proofs.Meaning.{next-low}
 use Rattle.first_pair.specs.Reach.{Joined}
-use Rattle.cycles.specs.Successors.{FillAsked, StateJoins, Filled, SuccessorsOf}
+use Rattle.cycles.specs.Successors.{FillAsked, StateJoins, FillDone, SuccessorsOf}
 
 module _ {c : Coder} (s : Sound c) {to : List ℕ}
     (b : ByOutput (placeParts false) (c .next) (c .output) (c .states) (c .inputs) to) where
@@ -84,7 +84,7 @@ module _ {c : Coder} (s : Sound c) {to : List ℕ}
         }
 
   pub filled-successors :
-      {words : List ℕ} → Filled (c .next) (c .output) to (c .states) (c .inputs) words →
+      {words : List ℕ} → FillDone (c .next) (c .output) to (c .states) (c .inputs) words →
       SuccessorsOf (machineOfCoder c) words
   filled-successors f =
       let h = s .states-high in

@@ -1,18 +1,20 @@
 -- Sets of pairs, row by row: as they are made, united and parted.
-use mathlib.Core.Path.{_≡_, refl, _∙_, subst}
+use mathlib.Core.Path.{_≡_, refl, _∙_}
 use mathlib.Core.Logic.{_≢_, _⊎_, inl, inr, ⊎-elim}
 use mathlib.Core.Bool.{Bool, false}
 use mathlib.Core.List.{List}
-use Prim.Native.Nat.{ℕ, _+_, _-_, _*_, _/_, _%_, _^_, _≤_, _<_}
+use Prim.Native.Nat.{ℕ, _+_, _-_, _*_, _/_, _%_, _^_, _<_}
 use native.Mathlib.Decide.{ℕ-discrete, decLt}
 use native.Mathlib.Omega.{arith}
 use lib.Bits.{bitAnd, bitOr, and-lt, or-lt}
 use lib.Count.{trailingZeros}
-use lib.ListN.{length, getD, set, length-set, List·getD-eq-default}
-use lib.Seq.{getD-set-same, getD-set-other}
+use lib.ListN.{length, getD, set, List·getD-eq-default}
 use Rattle.mealy.specs.Word.{Has}
 use Rattle.mealy.proofs.Words.{has-left, has-right, has-or, has-empty, has-both, has-and, has-not, not-has}
-use Rattle.mealy.proofs.Members.{has-below, least-member}
+use Rattle.mealy.specs.Image.{Image}
+use Rattle.mealy.proofs.OneMore.{next-below, more-image, image-cases}
+use Rattle.mealy.proofs.Members.{has-below, Rest, IsPassed, rest-whole, none-passed, all-passed, rest-less, one-passed}
+use Rattle.coder.proofs.Fill.{Filled, filled-none, filled-more}
 use Rattle.cycles.specs.Successors.{In, Rows, wordAt, WithBesides, FollowsRow, FollowsSet, ExactlyPairs, Parted}
 
 -- the pairs of a set are pairs of numbers below 16
@@ -25,34 +27,13 @@ in-below {s} r x y h =
 
 -- ---- one row after the other
 
--- the first n rows of the set r are those of f, and the others as in the set s
-pub record RowsBelow (f : ℕ → ℕ) (s r : List ℕ) (n : ℕ) : Type 0 where
-  pub size : length r ≡ 16
-  pub done : (x : ℕ) → x < n → getD r x 0 ≡ f x
-  pub left : (x : ℕ) → n ≤ x → getD r x 0 ≡ getD s x 0
-
-module _ {f : ℕ → ℕ} {s : List ℕ} where
-  pub rows-none : length s ≡ 16 → RowsBelow f s s 0
-  rows-none e = record { size = e; done = λ x l. absurd (omega arith); left = λ x l. refl }
-
-  pub rows-more : {r : List ℕ} {n v : ℕ} → RowsBelow f s r n → n < 16 → v ≡ f n → RowsBelow f s (set r n v) (n + 1)
-  rows-more {r} {n} {v} a l e =
-      let long = a .size in
-      record {
-        size = length-set r n v ∙ a .size;
-        done = λ x m. elim (ℕ-discrete x n) [
-          | yes q ↦ rw (q, getD-set-same r n v 0 (omega arith)) e
-          | no d ↦ getD-set-other r n x v 0 d ∙ a .done x (omega arith)
-        ];
-        left = λ x m. getD-set-other r n x v 0 (omega arith) ∙ a .left x (omega arith);
-      }
-
-  pub rows-all : {r : List ℕ} {n : ℕ} → RowsBelow f s r n → n ≡ 16 → Rows s → ((x : ℕ) → f x < 65536) → Rows r
-  rows-all {r} {n} a e b l =
-      record {
-        size = a .size;
-        bound = λ x. elim (decLt x n) [ yes m ↦ rw (a .done x m) (l x) | no m ↦ rw (a .left x (omega arith)) (b .bound x) ];
-      }
+rows-all :
+    {f : ℕ → ℕ} {s r : List ℕ} {n : ℕ} → Filled 16 f s n r → n ≡ 16 → Rows s → ((x : ℕ) → f x < 65536) → Rows r
+rows-all {n = n} a e b l =
+    record {
+      size = a .size;
+      bound = λ x. elim (decLt x n) [ yes m ↦ rw (a .is x m) (l x) | no m ↦ rw (a .left x (omega arith)) (b .bound x) ];
+    }
 
 -- ---- a set with more pairs
 
@@ -61,125 +42,106 @@ abbrev pub besides : (ℕ → ℕ) → List ℕ → ℕ → ℕ
 besides g s x = bitOr (getD s x 0) (g x)
 
 pub besides-all :
-    {g : ℕ → ℕ} {s r : List ℕ} {n : ℕ} → RowsBelow (besides g s) s r n → n ≡ 16 → Rows s → ((x : ℕ) → g x < 65536) →
+    {g : ℕ → ℕ} {s r : List ℕ} {n : ℕ} → Filled 16 (besides g s) s n r → n ≡ 16 → Rows s → ((x : ℕ) → g x < 65536) →
     WithBesides (λ x y. Has (g x) y) s r
 besides-all {g} {s} {r} {n} a e b l =
     record {
       rows = rows-all a e b (λ x. or-lt 16 (getD s x 0) (g x) (b .bound x) (l x));
       has = λ x y m. ⊎-elim
-          (λ h. rw (a .done x (omega arith)) (has-left (getD s x 0) (g x) y h))
-          (λ h. rw (a .done x (omega arith)) (has-right (getD s x 0) (g x) y h));
-      only = λ x y m h. has-or (getD s x 0) (g x) y (rw (a .done x (omega arith)) at h);
+          (λ h. rw (a .is x (omega arith)) (has-left (getD s x 0) (g x) y h))
+          (λ h. rw (a .is x (omega arith)) (has-right (getD s x 0) (g x) y h));
+      only = λ x y m h. has-or (getD s x 0) (g x) y (rw (a .is x (omega arith)) at h);
     }
 
-module _ {P : ℕ → ℕ → Type 0} where
-  pub besides-none : {s : List ℕ} → Rows s → ((x y : ℕ) → P x y → ⊥) → WithBesides P s s
-  besides-none b n = record { rows = b; has = λ x y l. ⊎-elim (λ h. h) (λ p. absurd (n x y p)); only = λ x y l h. inl h }
+besides-none : {P : ℕ → ℕ → Type 0} {s : List ℕ} → Rows s → ((x y : ℕ) → P x y → ⊥) → WithBesides P s s
+besides-none b n = record { rows = b; has = λ x y l. ⊎-elim (λ h. h) (λ p. absurd (n x y p)); only = λ x y l h. inl h }
 
-  pub exactly-none : {s : List ℕ} → Rows s → ((x : ℕ) → getD s x 0 ≡ 0) → ((x y : ℕ) → P x y → ⊥) → ExactlyPairs P s
-  exactly-none b z n =
+module _ {P Q : ℕ → ℕ → Type 0} (f : (x y : ℕ) → P x y → Q x y) (g : (x y : ℕ) → Q x y → P x y) where
+  besides-map : {s r : List ℕ} → WithBesides P s r → WithBesides Q s r
+  besides-map a =
       record {
-        rows = b;
-        has = λ x y l p. absurd (n x y p);
-        only = λ x y l h. absurd (has-empty y (rw (z x) at h));
+        rows = a .rows;
+        has = λ x y l. ⊎-elim (λ h. a .has x y l (inl h)) (λ q. a .has x y l (inr (g x y q)));
+        only = λ x y l h. ⊎-elim (λ k. inl k) (λ p. inr (f x y p)) (a .only x y l h);
       }
 
-module _ {P Q R : ℕ → ℕ → Type 0} where
-  pub besides-more :
-      {s t r : List ℕ} → WithBesides P s t → WithBesides Q t r → ((x y : ℕ) → P x y ⊎ Q x y → R x y) →
-      ((x y : ℕ) → R x y → P x y ⊎ Q x y) → WithBesides R s r
-  besides-more a b f g =
+  exactly-map : {r : List ℕ} → ExactlyPairs P r → ExactlyPairs Q r
+  exactly-map a = record { rows = a .rows; has = λ x y l q. a .has x y l (g x y q); only = λ x y l h. f x y (a .only x y l h) }
+
+module _ {P Q : ℕ → ℕ → Type 0} where
+  besides-then : {s t r : List ℕ} → WithBesides P s t → WithBesides Q t r → WithBesides (λ x y. P x y ⊎ Q x y) s r
+  besides-then a b =
       record {
         rows = b .rows;
         has = λ x y l. ⊎-elim
             (λ h. b .has x y l (inl (a .has x y l (inl h))))
-            (λ z. ⊎-elim (λ p. b .has x y l (inl (a .has x y l (inr p)))) (λ q. b .has x y l (inr q)) (g x y z));
-        only = λ x y l h. ⊎-elim
-            (λ k. ⊎-elim (λ i. inl i) (λ p. inr (f x y (inl p))) (a .only x y l k))
-            (λ q. inr (f x y (inr q)))
-            (b .only x y l h);
+            (⊎-elim (λ p. b .has x y l (inl (a .has x y l (inr p)))) (λ q. b .has x y l (inr q)));
+        only = λ x y l h. ⊎-elim (λ k. ⊎-elim (λ i. inl i) (λ p. inr (inl p)) (a .only x y l k)) (λ q. inr (inr q)) (b .only x y l h);
       }
 
-  pub exactly-more :
-      {s t : List ℕ} → ExactlyPairs P s → WithBesides Q s t → ((x y : ℕ) → P x y ⊎ Q x y → R x y) →
-      ((x y : ℕ) → R x y → P x y ⊎ Q x y) → ExactlyPairs R t
-  exactly-more a b f g =
+  exactly-then : {s t : List ℕ} → ExactlyPairs P s → WithBesides Q s t → ExactlyPairs (λ x y. P x y ⊎ Q x y) t
+  exactly-then a b =
       record {
         rows = b .rows;
-        has = λ x y l z. b .has x y l (⊎-elim (λ p. inl (a .has x y l p)) (λ q. inr q) (g x y z));
-        only = λ x y l h. f x y (⊎-elim (λ k. inl (a .only x y l k)) (λ q. inr q) (b .only x y l h));
+        has = λ x y l. ⊎-elim (λ p. b .has x y l (inl (a .has x y l p))) (λ q. b .has x y l (inr q));
+        only = λ x y l h. ⊎-elim (λ k. inl (a .only x y l k)) (λ q. inr q) (b .only x y l h);
       }
 
 -- ---- the successors of the pairs of a row
 
--- (x, y) follows some pair (u, v) with v in the row and not in the rest
-pub record FollowsPassed (words : List ℕ) (u row rest x y : ℕ) : Type 0 where
-  pub v : ℕ
-  pub within : Has row v
-  pub past : Has rest v → ⊥
-  pub word : Has (wordAt words (16 * u + v) x) y
+-- (x, y) follows some pair (u, v) with v in the set P
+abbrev pub FollowsIn : List ℕ → ℕ → (ℕ → Type 0) → ℕ → ℕ → Type 0
+FollowsIn words u P x = Image (λ v. Has (wordAt words (16 * u + v) x)) P
 
--- r has the pairs of s and those that follow pairs of the row that are not in the rest
+-- r has the pairs of s and those that follow pairs of the row that are passed
 pub record RowPassed (words : List ℕ) (u row : ℕ) (s r : List ℕ) (rest : ℕ) : Type 0 where
-  pub bound : rest < 65536
-  pub within : (v : ℕ) → Has rest v → Has row v
-  pub passed : WithBesides (FollowsPassed words u row rest) s r
+  pub left : Rest row rest
+  pub passed : WithBesides (FollowsIn words u (IsPassed row rest)) s r
 
 module _ {words : List ℕ} {u row : ℕ} {s : List ℕ} where
   pub row-none : row < 65536 → Rows s → RowPassed words u row s s row
-  row-none l b = record { bound = l; within = λ v h. h; passed = besides-none b (λ x y p. p .past (p .within)) }
+  row-none l b = record { left = rest-whole l; passed = besides-none b (λ x. none-passed) }
 
   pub row-more :
-      {t r : List ℕ} {rest a : ℕ} → RowPassed words u row s t rest → rest ≢ 0 → a ≡ 16 * u + trailingZeros 16 rest →
-      WithBesides (λ x y. Has (wordAt words a x) y) t r → RowPassed words u row s r (bitAnd rest (rest - 1))
-  row-more {t} {r} {rest} {a} p n e w =
-      let k = least-member 16 rest (p .bound) n .taken in
-      let m = trailingZeros 16 rest in
+      {t r : List ℕ} {rest : ℕ} → RowPassed words u row s t rest → rest ≢ 0 →
+      WithBesides (λ x y. Has (wordAt words (16 * u + trailingZeros 16 rest) x) y) t r →
+      RowPassed words u row s r (bitAnd rest (rest - 1))
+  row-more p n w =
+      let m = one-passed (p .left) n in
       record {
-        bound = omega (arith, k .less, p .bound);
-        within = λ v h. p .within v (k .was v h);
-        passed =
-            besides-more (p .passed) w
-            (λ x y. ⊎-elim
-            (λ f. record { v = f .v; within = f .within; past = λ h. f .past (k .was (f .v) h); word = f .word })
-            (λ h. record { v = m; within = p .within m (k .member); past = λ g. k .other m g refl; word = rw e at h }))
-            (λ x y f. elim (ℕ-discrete (f .v) m) [
-              | yes q ↦ inr (rw (e, ← q) (f .word))
-              | no d ↦ inl (record { v = f .v; within = f .within; past = λ h. f .past (k .others (f .v) h d); word = f .word })
-            ]);
+        left = rest-less (p .left) n;
+        passed = besides-map (λ x. more-image m) (λ x. image-cases m) (besides-then (p .passed) w);
       }
 
   pub row-all : {r : List ℕ} {rest : ℕ} → RowPassed words u row s r rest → rest ≡ 0 → WithBesides (FollowsRow words u row) s r
   row-all p e =
-      record {
-        rows = p .passed .rows;
-        has = λ x y l. ⊎-elim
-            (λ h. p .passed .has x y l (inl h))
-            (λ f. p .passed .has x y l
-            (inr (record { v = f .v; within = f .within; past = λ h. has-empty (f .v) (rw e at h); word = f .word })));
-        only = λ x y l h. ⊎-elim
-            (λ k. inl k)
-            (λ f. inr (record { v = f .v; within = f .within; word = f .word }))
-            (p .passed .only x y l h);
-      }
+      besides-map (λ x y i. record { v = i .s; within = i .from .member; word = i .step })
+      (λ x y f. record { s = f .v; from = all-passed e (f .v) (f .within); step = f .word })
+      (p .passed)
 
 -- ---- the successors of the pairs of a set
 
-pub image-none : {words s r : List ℕ} → Rows r → ((x : ℕ) → getD r x 0 ≡ 0) → ExactlyPairs (FollowsSet words 0 s) r
-image-none b z = exactly-none b z (λ x y f. let l = f .below in omega arith)
+-- the pairs that some u below n gives
+abbrev pub SomeBelow : (ℕ → ℕ → ℕ → Type 0) → ℕ → ℕ → ℕ → Type 0
+SomeBelow F n x = Image (λ u. F u x) (λ u. u < n)
 
-pub image-more :
-    {words s t r : List ℕ} {n : ℕ} → ExactlyPairs (FollowsSet words n s) t → WithBesides (FollowsRow words n (getD s n 0)) t r →
-    ExactlyPairs (FollowsSet words (n + 1) s) r
-image-more {words} {s} {t} {r} {n} a w =
-    exactly-more a w
-    (λ x y. ⊎-elim
-    (λ f. record { u = f .u; below = omega (arith, f .below); row = f .row })
-    (λ f. record { u = n; below = omega arith; row = f }))
-    (λ x y f. elim (ℕ-discrete (f .u) n) [
-      | yes q ↦ inr (subst (λ (u : ℕ). FollowsRow words u (getD s u 0) x y) q (f .row))
-      | no d ↦ let l = f .below in inl (record { u = f .u; below = omega arith; row = f .row })
-    ])
+module _ {F : ℕ → ℕ → ℕ → Type 0} where
+  pub image-none : {r : List ℕ} → Rows r → ((x : ℕ) → getD r x 0 ≡ 0) → ExactlyPairs (SomeBelow F 0) r
+  image-none b z = record {
+    rows = b;
+    has = λ x y l i. let m = i .from in absurd (omega arith);
+    only = λ x y l h. absurd (has-empty y (rw (z x) at h));
+  }
+
+  pub image-more : {t r : List ℕ} {n : ℕ} → ExactlyPairs (SomeBelow F n) t → WithBesides (F n) t r → ExactlyPairs (SomeBelow F (n + 1)) r
+  image-more a w = exactly-map (λ x. more-image (next-below refl)) (λ x. image-cases (next-below refl)) (exactly-then a w)
+
+pub image-all :
+    {words s r : List ℕ} {n : ℕ} → ExactlyPairs (SomeBelow (λ u. FollowsRow words u (getD s u 0)) n) r →
+    ExactlyPairs (FollowsSet words n s) r
+image-all =
+    exactly-map (λ x y i. record { u = i .s; below = i .from; row = i .step })
+    (λ x y f. record { s = f .u; from = f .below; step = f .row })
 
 -- ---- what one set has and another has not
 
@@ -189,13 +151,13 @@ freshRow to seen x = bitAnd (getD to x 0) (65535 - getD seen x 0)
 
 -- the first n rows of both sets are parted
 pub record RowsParted (to seen to′ seen′ : List ℕ) (r : Bool) (n : ℕ) : Type 0 where
-  pub fresh : RowsBelow (freshRow to seen) to to′ n
-  pub more : RowsBelow (besides (freshRow to seen) seen) seen seen′ n
+  pub fresh : Filled 16 (freshRow to seen) to n to′
+  pub more : Filled 16 (besides (freshRow to seen) seen) seen n seen′
   pub some : r ≡ false → (x : ℕ) → x < n → freshRow to seen x ≡ 0
 
 module _ {to seen : List ℕ} where
   pub parted-none : length to ≡ 16 → length seen ≡ 16 → RowsParted to seen to seen false 0
-  parted-none d e = record { fresh = rows-none d; more = rows-none e; some = λ q x l. absurd (omega arith) }
+  parted-none d e = record { fresh = filled-none d; more = filled-none e; some = λ q x l. absurd (omega arith) }
 
   pub parted-more :
       {to′ seen′ : List ℕ} {r r′ : Bool} {n v w : ℕ} → RowsParted to seen to′ seen′ r n → n < 16 →
@@ -204,8 +166,8 @@ module _ {to seen : List ℕ} where
   parted-more {to′} {seen′} {r} {r′} {n} {v} {w} a l e f g =
       let q : v ≡ freshRow to seen n = e ∙ rw (a .fresh .left n (omega arith), a .more .left n (omega arith)) refl in
       record {
-        fresh = rows-more (a .fresh) l q;
-        more = rows-more (a .more) l (f ∙ rw (q, a .more .left n (omega arith)) refl);
+        fresh = filled-more (a .fresh) l q;
+        more = filled-more (a .more) l (f ∙ rw (q, a .more .left n (omega arith)) refl);
         some = λ z x m. elim (ℕ-discrete x n) [
           | yes h ↦ rw (h, ← q) (g z .1)
           | no d ↦ a .some (g z .0) x (omega arith)
@@ -232,8 +194,8 @@ module _ {to seen : List ℕ} where
         record {
           fresh = record {
             rows = rows-all (a .fresh) e b fresh-low;
-            has = λ x y l h. rw (a .fresh .done x (omega arith)) (has-fresh x y (h .0) (h .1));
-            only = λ x y l h. fresh-has x y (rw (a .fresh .done x (omega arith)) at h);
+            has = λ x y l h. rw (a .fresh .is x (omega arith)) (has-fresh x y (h .0) (h .1));
+            only = λ x y l h. fresh-has x y (rw (a .fresh .is x (omega arith)) at h);
           };
           more = record {
             rows = w .rows;
@@ -245,5 +207,5 @@ module _ {to seen : List ℕ} where
                 ]);
             only = λ x y l h. ⊎-elim (λ k. inl k) (λ k. inr (fresh-has x y k .0)) (w .only x y l h);
           };
-          some = λ q x y l h. has-empty y (rw (a .fresh .done x (omega arith), a .some q x (omega arith)) at h);
+          some = λ q x y l h. has-empty y (rw (a .fresh .is x (omega arith), a .some q x (omega arith)) at h);
         }

@@ -1,18 +1,16 @@
 -- The successors of each pair of states, as sets of pairs: a set of pairs is 16 words, of which word x has the states y of its pairs (x, y).
-use Prim.Native.Nat.{ℕ, _+_, _*_, _/_, _%_, _≤_, _<_}
+use Prim.Native.Nat.{ℕ, _+_, _*_, _%_, _≤_, _<_}
 use mathlib.Core.Path.{_≡_}
 use mathlib.Core.Logic.{_⊎_}
 use mathlib.Core.Bool.{Bool, false}
 use mathlib.Core.List.{List}
 use lib.ListN.{length, getD}
-use Rattle.mealy.specs.Machine.{Machine, Total}
+use Rattle.mealy.specs.Machine.{Machine}
 use Rattle.mealy.specs.Word.{Has}
 use Rattle.first_pair.specs.Reach.{Cycle}
 pub use Rattle.first_pair.specs.Successors.{wordAt, PairWords, SuccessorsOf}
 pub use Rattle.first_pair.specs.Cost.{limit}
 use Rattle.first_pair.specs.Cost.{Capped, LeastCosts, Looped}
-use Rattle.fitting.specs.Tables.{ByOutput}
-use Rattle.chains.specs.Parts.{placeParts}
 
 -- the pair (x, y) is in a set
 abbrev pub In : List ℕ → ℕ → ℕ → Type 0
@@ -45,7 +43,7 @@ pub record StateJoins (next output to : List ℕ) (inputs u v x y : ℕ) : Type 
   pub second : GivesOutput output to inputs (16 * u + i) v y
 
 -- word x of each pair (u, v), u below the number of states, has the y that these lead to
-pub record Filled (next output to : List ℕ) (states inputs : ℕ) (words : List ℕ) : Type 0 where
+pub record FillDone (next output to : List ℕ) (states inputs : ℕ) (words : List ℕ) : Type 0 where
   pub shape : PairWords words
   pub has :
       (u v x y : ℕ) → u < states → v < 16 → x < 16 → StateJoins next output to inputs u v x y → Has (wordAt words (16 * u + v) x) y

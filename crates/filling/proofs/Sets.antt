@@ -5,7 +5,6 @@ use mathlib.Core.List.{List}
 use mathlib.Core.Logic.{_⊎_, inl, inr, ⊎-elim}
 use Prim.Native.Nat.{ℕ, zero, suc, _+_, _*_, _/_, _%_, _<_}
 use native.Mathlib.Decide.{ℕ-discrete}
-use native.Mathlib.Nat.{eq-or-lt-of-le, le-of-suc-le-suc}
 use native.Mathlib.Omega.{arith}
 use lib.ListN.{length, getD, replicate, length-set, getD-replicate}
 use lib.Dec.{eqb}
@@ -13,12 +12,14 @@ use lib.Seq.{getD-set-same, getD-set-other}
 use borrow.Author.Tests.{eq-eqb, ne-eqb, eqb-true, eqb-false}
 use Rattle.mealy.specs.Machine.{Machine}
 use Rattle.mealy.specs.Word.{Holds}
+use Rattle.mealy.specs.Image.{Image}
 use Rattle.mealy.proofs.Words.{holds-none, holds-one, holds-map, holds-empty, holds-greatest, holds-union}
+use Rattle.mealy.proofs.OneMore.{OneMore, next-below, more-image, image-cases}
 use Rattle.mealy.proofs.Members.{holds-itself}
 use Rattle.coder.proofs.Tables.{table-at}
 use Rattle.coder.specs.Table.{machineOfCoder, Sound}
 use Rattle.coder.specs.declared.inner.tables.Coder.{Coder}
-use Rattle.coder.proofs.Refusals.{both-true}
+use Rattle.coder.proofs.Refusals.{both-true, true-false}
 use Rattle.chains.specs.Chain.{over}
 use Rattle.chains.proofs.Entries.{is-entry, entry-place, has-key, key-entry}
 use Rattle.filling.specs.Runs.{Sets, Contributes, SetAfter, EachWord, SetsIn, LetterAfter}
@@ -44,11 +45,8 @@ contribution-holds Q here s p {u} a = go here (eqb u 0) refl
 -- ---- the union of what the entries with a test give
 
 -- some entry below place n with the test gives x
-record ContributedBelow (T : ℕ → Bool) (Q : Sets) (here : Bool) (n x : ℕ) : Type 0 where
-  place : ℕ
-  below : place < n
-  passes : T place ≡ true
-  contributes : Contributes Q here (place / 16) (place % 16) x
+abbrev ContributedBelow : (ℕ → Bool) → Sets → Bool → ℕ → ℕ → Type 0
+ContributedBelow T Q here n = Image (λ p x. (T p ≡ true) × Contributes Q here (p / 16) (p % 16) x) (λ p. p < n)
 
 module _ (Q : Sets) (v : List ℕ) (here : Bool) (T : ℕ → Bool)
     (known : (p : ℕ) → T p ≡ true → Holds (Q (p / 16)) (getD v (p / 16) 0)) where
@@ -59,36 +57,26 @@ module _ (Q : Sets) (v : List ℕ) (here : Bool) (T : ℕ → Bool)
   gather-holds : (n : ℕ) → GatherHolds n
   unfolding over gather
   gather-holds zero P u h =
-      holds-map (λ x. inl) (λ x. ⊎-elim (λ q. q) (λ f. absurd (let m = f .below in omega arith))) h
+      holds-map (λ x. inl) (λ x. ⊎-elim (λ q. q) (λ f. absurd (let m = f .from in omega arith))) h
   gather-holds (suc n) P u h = go (T n) refl (gather-holds n)
     where
-      earlier : (x : ℕ) → ContributedBelow T Q here n x → ContributedBelow T Q here (suc n) x
-      earlier x f =
-          record { place = f .place; below = let m = f .below in omega arith; passes = f .passes; contributes = f .contributes }
-
-      last :
-          (x : ℕ) → ContributedBelow T Q here (suc n) x →
-          ((T n ≡ true) × Contributes Q here (n / 16) (n % 16) x) ⊎ ContributedBelow T Q here n x
-      last x f =
-          ⊎-elim (λ (q : f .place ≡ n). inl (rw q at (f .passes), rw q at (f .contributes)))
-          (λ q. inr (record { place = f .place; below = q; passes = f .passes; contributes = f .contributes }))
-          (eq-or-lt-of-le (le-of-suc-le-suc (f .below)))
+      m : OneMore (λ p. p < n) n (λ p. p < suc n)
+      m = next-below (omega arith)
 
       go : (b : Bool) → T n ≡ b → GatherHolds n →
           Holds (λ x. P x ⊎ ContributedBelow T Q here (suc n) x) (over T (gather v here) u (suc n))
       go true e r =
           rw e
           (holds-map
-          (λ x. ⊎-elim (⊎-elim inl (λ g. inr (record { place = n; below = omega arith; passes = e; contributes = g })))
-          (λ g. inr (earlier x g)))
-          (λ x. ⊎-elim (λ q. inl (inl q)) (λ g. ⊎-elim (λ f. inl (inr (f .1))) inr (last x g)))
+          (λ x. ⊎-elim (⊎-elim inl (λ g. inr (more-image m x (inr (e, g))))) (λ g. inr (more-image m x (inl g))))
+          (λ x. ⊎-elim (λ q. inl (inl q)) (λ g. ⊎-elim inr (λ f. inl (inr (f .1))) (image-cases m x g)))
           (r (λ x. P x ⊎ Contributes Q here (n / 16) (n % 16) x) (gather v here u n)
           (holds-union h (contribution-holds Q here (n / 16) n (known n e)))))
       go false e r =
           rw e
           (holds-map
-          (λ x. ⊎-elim inl (λ g. inr (earlier x g)))
-          (λ x. ⊎-elim inl (λ g. ⊎-elim (λ f. absurd (let y : _≡_ {A = ℕ} 0 1 = cc (f .0) in omega arith)) inr (last x g)))
+          (λ x. ⊎-elim inl (λ g. inr (more-image m x (inl g))))
+          (λ x. ⊎-elim inl (λ g. ⊎-elim inr (λ f. absurd (true-false (f .0) e)) (image-cases m x g)))
           (r P u h))
 
 -- the set of state t is the union of what the entries that lead to t give
@@ -197,17 +185,12 @@ module _ (c : Coder) (sound : Sound c) (Q : Sets) (v : List ℕ) (o : ℕ) (here
       (holds-map
       (λ x. ⊎-elim absurd
       (λ f.
-      let b = both-true (hasOutput c o (f .place)) (eqb (getD (c .next) (f .place) 0) t) (f .passes) in
-      set-after (f .place) (b .0) (eqb-true _ _ (b .1)) (f .contributes)))
+      let b = both-true (hasOutput c o (f .s)) (eqb (getD (c .next) (f .s) 0) t) (f .step .0) in
+      set-after (f .s) (b .0) (eqb-true _ _ (b .1)) (f .step .1)))
       (λ x a.
       let p = after-place a in
       inr
-      (record {
-        place = p .place;
-        below = p .below;
-        passes = rw (p .is) (eq-eqb _ _ (p .to));
-        contributes = p .contributes;
-      }))
+      (record { s = p .place; from = p .below; step = (rw (p .is) (eq-eqb _ _ (p .to)), p .contributes) }))
       (gather-holds Q v here T
       (λ p e. known-at p (both-true (hasOutput c o p) (eqb (getD (c .next) p 0) t) e .0)) 256 (λ x. ⊥) 0 (holds-none (λ x f. f))))
 
@@ -227,8 +210,8 @@ letters-hold c sound v o here words =
     let known = sets-hold c sound v words in
     holds-map
     (λ x. ⊎-elim absurd
-    (λ f. record { t = _; is = set-after c sound Q v o here known (f .place) (f .passes) refl (f .contributes) }))
+    (λ f. record { t = _; is = set-after c sound Q v o here known (f .s) (f .step .0) refl (f .step .1) }))
     (λ x a.
     let p = after-place c sound Q v o here known (a .is) in
-    inr (record { place = p .place; below = p .below; passes = p .is; contributes = p .contributes }))
+    inr (record { s = p .place; from = p .below; step = (p .is, p .contributes) }))
     (gather-holds Q v here (hasOutput c o) (known-at c sound Q v o here known) 256 (λ x. ⊥) 0 (holds-none (λ x f. f)))

@@ -1,56 +1,19 @@
--- The loops over the states and over the entries of a row, one turn at a time.
-use mathlib.Core.Path.{_≡_, refl, sym, _∙_}
+-- The set of a state before the first letter; the loop over the entries of a row, one turn at a time.
+use mathlib.Core.Path.{_≡_, sym, _∙_}
 use mathlib.Core.Bool.{true}
 use mathlib.Core.List.{List}
 use Prim.Native.Nat.{ℕ, suc, _+_, _/_, _%_, _^_, _≤_, _<_}
 use native.Mathlib.Omega.{arith}
-use lib.ListN.{length, getD, set, replicate, length-set}
-use lib.Seq.{getD-set-same, getD-set-other, ext-getD}
-use borrow.Author.Count.{below-more}
-use Rattle.coder.specs.Table.{table}
+use lib.ListN.{getD}
 use Rattle.coder.specs.declared.inner.tables.Coder.{Coder}
-use Rattle.coder.proofs.Fill.{length-table, getD-table}
 use Rattle.chains.specs.Chain.{lastBelow, over}
 use Rattle.chains.specs.Rows.{ahead}
 use Rattle.chains.proofs.Chains.{last-bound, last-passes, over-last, over-step}
 use Rattle.chains.proofs.Rows.{ahead-in, ahead-end}
-use Rattle.filling.specs.Sets.{hasOutput, startSets, RowsAsked, RowsOf}
+use Rattle.filling.specs.Sets.{hasOutput, RowsAsked, RowsOf}
 
--- ---- the sets before the first letter
-
--- the set of state s
 abbrev pub startSet : ℕ → ℕ → ℕ
 startSet starts s = starts / 2 ^ s % 2
-
--- the first s are made
-pub record StartSetsMade (starts s : ℕ) (v : List ℕ) : Type 0 where
-  pub size : length v ≡ 16
-  pub is : (j : ℕ) → j < s → getD v j 0 ≡ startSet starts j
-
-module _ {starts : ℕ} where
-  pub start-sets-none : StartSetsMade starts 0 (replicate 16 0)
-  start-sets-none = record { size = refl; is = λ j l. absurd (omega arith) }
-
-  pub start-sets-more : {s : ℕ} {v : List ℕ} → StartSetsMade starts s v → s < 16 → StartSetsMade starts (s + 1) (set v s (startSet starts s))
-  start-sets-more {s} {v} a l =
-      let z = a .size in
-      let u = startSet starts s in
-      record {
-        size = length-set v s u ∙ a .size;
-        is =
-            below-more (λ j. getD (set v s u) j 0 ≡ startSet starts j) s
-            (λ j q. getD-set-other v s j u 0 (λ (y : j ≡ s). omega arith) ∙ a .is j q)
-            (getD-set-same v s u 0 (omega arith));
-      }
-
-  pub start-sets-all : {s : ℕ} {v : List ℕ} → StartSetsMade starts s v → 16 ≤ s → v ≡ startSets starts
-  start-sets-all {s} {v} a l =
-      let g = startSet starts in
-      let z = a .size in
-      ext-getD 0 v (table 16 g) (a .size ∙ sym (length-table 16 g))
-      (λ j m. a .is j (omega arith) ∙ sym (getD-table 16 g j (omega arith)))
-
--- ---- the entries of a row
 
 -- the number of the entry at place j of the row of o, counted from 1; 0 at the row's end
 abbrev pub numberAt : List ℕ → List ℕ → ℕ → ℕ → ℕ

@@ -1,14 +1,15 @@
 -- One window: the pass over its letters, and that its answer is right.
-use mathlib.Core.Path.{_≡_}
+use mathlib.Core.Path.{_≡_, sym}
 use mathlib.Core.List.{List, [], _∷_}
-use mathlib.Core.Logic.{⊎-elim, inl, inr}
 use Prim.Native.Nat.{ℕ, zero, suc, pred, _<_, _≤_}
-use native.Mathlib.Nat.{eq-or-lt-of-le, le-of-suc-le-suc}
+use native.Mathlib.Numerals.{add-one}
 use native.Mathlib.Omega.{arith}
 use lib.ListN.{length, getD}
 use lib.Dec.{eqb}
 use Rattle.mealy.specs.Word.{Holds}
-use Rattle.mealy.proofs.Words.{holds-map, holds-none, holds-union}
+use Rattle.mealy.specs.Image.{Image}
+use Rattle.mealy.proofs.Words.{holds-map, holds-none}
+use Rattle.mealy.proofs.OneMore.{next-below, holds-more}
 use Rattle.coder.specs.Table.{machineOfCoder, Sound}
 use Rattle.coder.specs.declared.inner.tables.Coder.{Coder}
 use Rattle.setting.specs.Words.{settingOfCoder}
@@ -24,16 +25,11 @@ use Rattle.filling.proofs.Filling.{start-holds}
 -- the union of the first n words holds the union of their sets
 holds-union-of :
     (Q : Sets) (v : List ℕ) (n : ℕ) → ((s : ℕ) → s < n → Holds (Q s) (getD v s 0)) →
-    Holds (λ x. (s : ℕ) × (s < n) × Q s x) (unionOf n v)
+    Holds (Image Q (λ s. s < n)) (unionOf n v)
 unfolding unionOf
-holds-union-of Q v zero h = holds-none (λ x q. absurd (let l = q .1 in omega arith))
+holds-union-of Q v zero h = holds-none (λ x i. let l = i .from in omega arith)
 holds-union-of Q v (suc n) h =
-    holds-map
-    (λ x. ⊎-elim (λ q. (q .0, (let l = q .1 in omega arith), q .2)) (λ q. (n, (omega arith), q)))
-    (λ x q.
-    ⊎-elim (λ (e : q .0 ≡ n). inr (rw e at (q .2))) (λ l. inl (q .0, l, q .2))
-    (eq-or-lt-of-le (le-of-suc-le-suc (q .1))))
-    (holds-union (holds-union-of Q v n (λ s l. h s (omega arith))) (h n (omega arith)))
+    holds-more (next-below (sym (add-one n))) (holds-union-of Q v n (λ s l. h s (omega arith))) (h n (omega arith))
 
 module _ (c : Coder) (sound : Sound c) where
   pass-holds :
@@ -44,7 +40,8 @@ module _ (c : Coder) (sound : Sound c) where
       let e : p ≡ 0 = omega arith in
       let M = machineOfCoder c in
       rw e
-      (holds-map (λ x q. from-all M Q x (q .0, q .2)) (λ x f. let q = all-from M Q x f in (q .0, h (q .0) x (q .1), q .1))
+      (holds-map (λ x i. from-all M Q x (i .s, i .step))
+      (λ x f. let q = all-from M Q x f in record { s = q .0; from = h (q .0) x (q .1); step = q .1 })
       (holds-union-of Q v (c .states) k))
   pass-holds (o ∷ w) v p Q h k l =
       let M = machineOfCoder c in

@@ -2,14 +2,15 @@
 use mathlib.Core.Path.{_≡_, refl, subst}
 use mathlib.Core.Logic.{_≢_, _⊎_, inl, inr, ⊎-elim}
 use Prim.Native.Nat.{ℕ, _+_, _-_, _<_, _≤_}
-use native.Mathlib.Decide.{ℕ-discrete, decLt}
+use native.Mathlib.Decide.{decLt}
 use native.Mathlib.Omega.{arith}
 use lib.Bits.{bitAnd}
 use lib.Count.{trailingZeros}
 use Rattle.mealy.specs.Word.{Has}
 use Rattle.mealy.specs.Image.{Image}
-use Rattle.mealy.proofs.Words.{has-empty}
-use Rattle.mealy.proofs.Members.{least-member}
+use Rattle.mealy.proofs.Images.{image-within}
+use Rattle.mealy.proofs.OneMore.{OneMore, next-below, more-image, image-cases}
+use Rattle.mealy.proofs.Members.{Rest, IsPassed, rest-whole, none-passed, all-passed, rest-less, one-passed}
 use Rattle.first_pair.specs.Cost.{Capped}
 
 -- ---- one number more
@@ -35,6 +36,12 @@ capped-then {P} {Q} {cap} {m} {r} a b =
       least = λ n. ⊎-elim (λ p. omega (arith, a .least n p)) (b .least n);
     }
 
+-- what Q leads to from a set with one number more
+capped-more :
+    {P P′ : ℕ → Type 0} {Q : ℕ → ℕ → Type 0} {x cap so-far r : ℕ} → OneMore P x P′ → Capped (Image Q P) cap so-far →
+    Capped (Q x) so-far r → Capped (Image Q P′) cap r
+capped-more m a h = capped-map (more-image m) (image-cases m) (capped-then a h)
+
 -- one number n, read as m: it falls below the cap, or it does not
 pub capped-lower : {n m cap : ℕ} → n ≡ m → m < cap → Capped (λ k. n ≡ k) cap m
 capped-lower e l = record { high = omega arith; holds = λ k. e; least = λ k q. omega arith }
@@ -44,43 +51,24 @@ capped-kept e l = record { high = omega arith; holds = λ k. absurd (omega arith
 
 -- ---- a loop over the members of a set
 
--- the least so far: over those members of the set that are not in the rest
+-- the least so far
 pub record LeastPassed (set rest : ℕ) (Q : ℕ → ℕ → Type 0) (cap so-far : ℕ) : Type 0 where
-  pub bound : rest < 65536
-  pub within : (s : ℕ) → Has rest s → Has set s
-  pub capped : Capped (Image Q (λ s. Has set s × (Has rest s → ⊥))) cap so-far
+  pub left : Rest set rest
+  pub capped : Capped (Image Q (IsPassed set rest)) cap so-far
 
 pub least-none : {set cap : ℕ} {Q : ℕ → ℕ → Type 0} → set < 65536 → LeastPassed set set Q cap cap
-least-none l = record { bound = l; within = λ s h. h; capped = capped-none (λ n q. q .from .1 (q .from .0)) }
+least-none l = record { left = rest-whole l; capped = capped-none none-passed }
 
 pub least-more :
     {set rest cap so-far r : ℕ} {Q : ℕ → ℕ → Type 0} → LeastPassed set rest Q cap so-far → rest ≢ 0 →
     Capped (Q (trailingZeros 16 rest)) so-far r → LeastPassed set (bitAnd rest (rest - 1)) Q cap r
-least-more {set} {rest} {cap} {so-far} {r} {Q} a n h =
-    let x = trailingZeros 16 rest in
-    let t = least-member 16 rest (a .bound) n .taken in
-    record {
-      bound = omega (arith, t .less, a .bound);
-      within = λ s k. a .within s (t .was s k);
-      capped =
-          capped-map {P = λ y. Image Q (λ s. Has set s × (Has rest s → ⊥)) y ⊎ Q x y}
-          (λ y. ⊎-elim
-          (λ i. record { s = i .s; from = (i .from .0, λ k. i .from .1 (t .was (i .s) k)); step = i .step })
-          (λ q. record { s = x; from = (a .within x (t .member), λ k. t .other x k refl); step = q }))
-          (λ y i. elim (ℕ-discrete (i .s) x) [
-            | yes e ↦ inr (subst (λ (s : ℕ). Q s y) e (i .step))
-            | no d ↦ inl (record { s = i .s; from = (i .from .0, λ k. i .from .1 (t .others (i .s) k d)); step = i .step })
-          ])
-          (capped-then (a .capped) h);
-    }
+least-more a n h = record { left = rest-less (a .left) n; capped = capped-more (one-passed (a .left) n) (a .capped) h }
 
 pub least-all :
     {set rest cap so-far : ℕ} {Q : ℕ → ℕ → Type 0} → LeastPassed set rest Q cap so-far → rest ≡ 0 →
     Capped (Image Q (Has set)) cap so-far
 least-all a e =
-    capped-map (λ y i. record { s = i .s; from = i .from .0; step = i .step })
-    (λ y i. record { s = i .s; from = (i .from, λ h. has-empty (i .s) (rw e at h)); step = i .step })
-    (a .capped)
+    capped-map (image-within (λ s y q. q) (λ s p. p .member)) (image-within (λ s y q. q) (all-passed e)) (a .capped)
 
 -- ---- a loop over the numbers below a bound
 
@@ -90,13 +78,4 @@ below-none = capped-none (λ n q. let l = q .from in omega arith)
 pub below-one :
     {Q : ℕ → ℕ → Type 0} {k cap so-far r : ℕ} → Capped (Image Q (λ i. i < k)) cap so-far → Capped (Q k) so-far r →
     Capped (Image Q (λ i. i < k + 1)) cap r
-below-one {Q} {k} a h =
-    capped-map {P = λ y. Image Q (λ i. i < k) y ⊎ Q k y}
-    (λ y. ⊎-elim
-    (λ i. let l = i .from in record { s = i .s; from = omega arith; step = i .step })
-    (λ q. record { s = k; from = omega arith; step = q }))
-    (λ y i. let l = i .from in elim (ℕ-discrete (i .s) k) [
-      | yes e ↦ inr (subst (λ (s : ℕ). Q s y) e (i .step))
-      | no d ↦ inl (record { s = i .s; from = omega arith; step = i .step })
-    ])
-    (capped-then a h)
+below-one = capped-more (next-below refl)

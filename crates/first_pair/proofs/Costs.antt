@@ -1,5 +1,5 @@
 -- Least costs in a table, and the lowest letters along it.
-use mathlib.Core.Path.{_≡_, refl, sym, _∙_}
+use mathlib.Core.Path.{refl, _∙_}
 use mathlib.Core.List.{List}
 use Prim.Native.Nat.{ℕ, zero, suc, _+_, _*_, _≤_, _<_}
 use native.Mathlib.Omega.{arith}
@@ -10,9 +10,9 @@ use lib.Seq.{getD-set-same, getD-set-other}
 use Rattle.mealy.specs.Machine.{Machine, Total}
 use Rattle.mealy.specs.Product.{Edge}
 use Rattle.first_pair.specs.Reach.{Pairs, Reach, Into}
-use Rattle.first_pair.specs.Lowest.{Leads, none, letter, LowestOf, Lowest, there, lowest}
-use Rattle.first_pair.specs.Cost.{CostTable, Capped, Cost, LeastCosts, Seeds, CostOf, entry, endless}
-use Rattle.first_pair.proofs.Reaching.{into-neighbour, neighbour-into, leads-reach}
+use Rattle.first_pair.specs.Lowest.{Leads, none, letter, Lowest, there, lowest}
+use Rattle.first_pair.specs.Cost.{CostTable, Cost, LeastCosts, Seeds, CostOf, entry, endless}
+use Rattle.first_pair.proofs.Reaching.{neighbour-into, leads-reach}
 use Rattle.first_pair.proofs.Making.{reach-leads}
 
 -- ---- tables

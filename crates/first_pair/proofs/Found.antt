@@ -1,24 +1,23 @@
 -- The pair whose lengths and letters are found by tables of least costs is the first.
-use mathlib.Core.Path.{_≡_, refl, sym, _∙_}
-use mathlib.Core.List.{List, [], _∷_}
-use Prim.Native.Nat.{ℕ, zero, suc, _+_, _*_, _/_, _≤_, _<_}
+use mathlib.Core.Path.{_≡_, refl}
+use mathlib.Core.List.{List}
+use Prim.Native.Nat.{ℕ, suc, _+_, _*_, _≤_, _<_}
 use native.Mathlib.Omega.{arith}
 use native.Mathlib.Decide.{decLt}
 use lib.ListN.{length}
 use Rattle.mealy.specs.Machine.{Machine, Total}
 use Rattle.mealy.specs.Setting.{Setting, Bounded}
-use Rattle.mealy.specs.Product.{Edge}
-use Rattle.mealy.specs.LoopedPair.{LoopedPair, first, second, letterAt, mark, unlooped, letters, Valid}
+use Rattle.mealy.specs.LoopedPair.{LoopedPair, first, second, letterAt, mark, letters, Valid}
 use Rattle.mealy.specs.First.{Lexicographic, First}
-use Rattle.first_pair.specs.Reach.{Pairs, Reach, At, Cycle, Into, ConflictInto, Conflicting}
-use Rattle.first_pair.specs.Lowest.{Leads, LowestOf, Lowest, bytesFrom, LowestPair}
+use Rattle.first_pair.specs.Reach.{Reach, At, Cycle, Into, ConflictInto, Conflicting}
+use Rattle.first_pair.specs.Lowest.{LowestOf, Lowest, LowestPair}
 use Rattle.first_pair.specs.Found.{totalAt, LengthsBy, LettersBy}
-use Rattle.first_pair.specs.Cost.{Capped, Cost, Only, Looped, Tail, Marked, Head, LeastCosts, CostOf, entry, letter, inLetter, outLetter, endless, tailCost, headCost}
+use Rattle.first_pair.specs.Cost.{Cost, Only, Looped, Tail, Marked, Head, LeastCosts, CostOf, entry, letter, inLetter, outLetter, endless, tailCost, headCost}
 use Rattle.first_pair.proofs.Reaching.{into-neighbour}
 use Rattle.first_pair.proofs.Lowest.{lowest-leads, lowest-within}
 use Rattle.first_pair.proofs.Making.{reach-leads}
 use Rattle.first_pair.proofs.FirstPairs.{lengths, valid-cycle, valid-reach, first-pair}
-use Rattle.first_pair.proofs.Costs.{Along, NoLower, no-lower, lowest-costs, cost-first, cost-on, cost-none, leads-below}
+use Rattle.first_pair.proofs.Costs.{Along, NoLower, no-lower, lowest-costs, cost-first, cost-none, leads-below}
 use Rattle.first_pair.proofs.LengthCosts.{head-order, distance-to, distance-from, tail-of, tail-to, head-of, head-to}
 
 -- ---- closed walks, by the number of letters to one pair

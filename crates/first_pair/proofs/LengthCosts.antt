@@ -1,11 +1,11 @@
 -- The cost of lengths, and the lengths of a cost.
-use mathlib.Core.Path.{_≡_, refl, ap}
-use Prim.Native.Nat.{ℕ, suc, _+_, _*_, _≤_, _<_}
+use mathlib.Core.Path.{_≡_, refl}
+use Prim.Native.Nat.{ℕ, _+_, _*_, _≤_, _<_}
 use native.Mathlib.Omega.{arith}
-use Rattle.mealy.specs.Machine.{Machine, Total}
+use Rattle.mealy.specs.Machine.{Machine}
 use Rattle.mealy.specs.Setting.{Setting}
 use Rattle.first_pair.specs.Reach.{Pairs, Reach, At, Cycle, Conflicting}
-use Rattle.first_pair.specs.Cost.{Cost, Only, Looped, Tail, Marked, Head, letter, inLetter, outLetter, endless, tailCost, headCost}
+use Rattle.first_pair.specs.Cost.{Cost, Only, Looped, Tail, Marked, Head, letter, endless, tailCost, headCost}
 use Rattle.first_pair.proofs.Reaching.{reach-map, leads-reach}
 use Rattle.first_pair.proofs.Making.{reach-leads}
 

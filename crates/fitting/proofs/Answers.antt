@@ -11,7 +11,7 @@ use Rattle.mealy.specs.Setting.{Setting}
 use Rattle.mealy.specs.Answer as mealy
 use Rattle.mealy.specs.Word.{Holds}
 use Rattle.mealy.proofs.Answers.{answer-unique}
-use Rattle.mealy.proofs.Words.{one-shifted, holds-empty, holds-greatest, holds-another, has-alone}
+use Rattle.mealy.proofs.Words.{shifted, holds-empty, holds-greatest, holds-another, has-alone}
 use Rattle.fitting.specs.Answer.{meaning, Right, RightByte, greatest, answerOf, ByteOf}
 use Rattle.fitting.specs.declared.Answer.{Answer}
 use Rattle.fitting.specs.declared.Answer.the-variants.{Letter, None, Several}
@@ -19,16 +19,16 @@ use Rattle.fitting.specs.declared.Answer.the-variants.{Letter, None, Sev
 -- ---- as it is made
 
 module _ (u : ℕ) (n : u ≡ 0 → ⊥) where
-  shifted : 1 * 2 ^ greatest u % 2 ^ 16 ≡ 2 ^ greatest u
-  shifted = one-shifted (greatest u) (omega arith)
+  made : 1 * 2 ^ greatest u % 2 ^ 16 ≡ 2 ^ greatest u
+  made = shifted 16 (greatest u) (omega arith)
 
   pub several-letters : (u ≡ 1 * 2 ^ greatest u % 2 ^ 16 → ⊥) → Several ≡ answerOf u
   unfolding answerOf
-  several-letters d = rw (ne-eqb u 0 n, ne-eqb u (2 ^ greatest u) (λ e. d (e ∙ sym shifted)))
+  several-letters d = rw (ne-eqb u 0 n, ne-eqb u (2 ^ greatest u) (λ e. d (e ∙ sym made)))
 
   pub one-letter : u ≡ 1 * 2 ^ greatest u % 2 ^ 16 → Letter (greatest u) ≡ answerOf u
   unfolding answerOf
-  one-letter e = rw (ne-eqb u 0 n, eq-eqb u (2 ^ greatest u) (e ∙ shifted))
+  one-letter e = rw (ne-eqb u 0 n, eq-eqb u (2 ^ greatest u) (e ∙ made))
 
 -- ---- what it means
 

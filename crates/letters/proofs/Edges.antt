@@ -5,11 +5,11 @@ use Prim.Native.Nat.{ℕ, _+_, _*_, _<_}
 use native.Mathlib.Omega.{arith}
 use lib.Dec.{eqb}
 use lib.ListN.{length, getD}
-use borrow.Author.Tests.{eqb-true, eqb-false}
 use Rattle.mealy.specs.Word.{Has}
 use Rattle.coder.specs.Refusal.{Judges}
 use Rattle.coder.specs.Table.{tableAt, machineOfCoder}
 use Rattle.coder.specs.declared.inner.tables.Coder.{Coder}
+use Rattle.coder.proofs.Judging.{judges-map, equal-judges}
 use Rattle.coder.proofs.Tables.{table-place}
 use Rattle.setting.proofs.Numbers.{holds-all}
 use Rattle.first_pair.specs.Reach.{Into}
@@ -24,10 +24,8 @@ pub cost-judged :
     x ≡ getD next (16 * u + i) 0 → y ≡ getD next (16 * v + j) 0 →
     Judges (EdgeTo next output inputs allowed t u v want i j) (eqb (entry t x y) want)
 cost-judged t want x y l m same within p q =
-    record {
-      yes′ = λ e. let f = eqb-true (entry t x y) want e in record { below₁ = l; below₂ = m; same = same; within = within; cost = cc };
-      no′ = λ e h. eqb-false (entry t x y) want e (cc (h .cost));
-    }
+    judges-map (λ e. record { below₁ = l; below₂ = m; same = same; within = within; cost = cc }) (λ h. cc (h .cost))
+    (equal-judges (entry t x y) want)
 
 -- ---- the edges in the arrays are those of the machine
 

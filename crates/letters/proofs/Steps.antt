@@ -10,7 +10,7 @@ use Rattle.coder.specs.declared.inner.tables.Coder.{Coder}
 use Rattle.coder.proofs.Tables.{next-high}
 use Rattle.first_pair.specs.Lowest.{LowestOf, bytesAt}
 use Rattle.first_pair.proofs.Writing.{LowestSoFar, so-far-none, so-far-write, so-far-all}
-use Rattle.letters.specs.Walk.{EdgeTo, LowestAsked, AfterLetters, ArraysOf, CostOf, PairOf, SomeInto, WriteFrom, Kept, Wrote}
+use Rattle.letters.specs.Walk.{EdgeTo, LowestAsked, AfterLetters, ArraysOf, CostOf, PairOf, SomeInto, WriteFrom, StaysOutside, Wrote}
 use Rattle.letters.proofs.Edges.{AllLetters, table-is, some-edge, lowest-into}
 
 -- ---- the bytes
@@ -32,12 +32,12 @@ module _ (bytes : List ℕ) (at i j : ℕ) (room : 2 * at + 1 < length bytes) wh
   pub with-second : getD (withLetters bytes at i j) (2 * at + 1) 0 ≡ j
   with-second = getD-set-same (set bytes (2 * at) i) (2 * at + 1) j 0 (rw (length-set bytes (2 * at) i) room)
 
-pub kept-none : {place : ℕ} {bytes : List ℕ} → Kept place 0 bytes bytes
+pub kept-none : {place : ℕ} {bytes : List ℕ} → StaysOutside place 0 bytes bytes
 kept-none = record { size = refl; earlier = λ p l. refl; later = λ p l. refl }
 
 pub kept-more :
-    {place k : ℕ} {before bytes : List ℕ} (i j : ℕ) → Kept place k before bytes →
-    Kept place (k + 1) before (withLetters bytes (place + k) i j)
+    {place k : ℕ} {before bytes : List ℕ} (i j : ℕ) → StaysOutside place k before bytes →
+    StaysOutside place (k + 1) before (withLetters bytes (place + k) i j)
 kept-more {place} {k} {before} {bytes} i j w =
     let at = place + k in
     record {
@@ -114,7 +114,7 @@ module _ {c : Coder} {next output : List ℕ} {inputs : ℕ} (arrays : ArraysOf 
 -- with the last it is done
 pub walked-all :
     {c : Coder} {t : List ℕ} {step base from n place k rest a : ℕ} {before after : List ℕ} → c .states ≤ 16 → k ≡ n → rest ≡ 0 →
-    Walked c t step base from n place k rest a after → Kept place k before after → Wrote c t step base from n place before after a
+    Walked c t step base from n place k rest a after → StaysOutside place k before after → Wrote c t step base from n place before after a
 walked-all high e z w kept =
     let q = w .pair in
     record {

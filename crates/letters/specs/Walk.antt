@@ -7,7 +7,7 @@ use Rattle.mealy.specs.Word.{Has}
 use Rattle.coder.specs.Table.{machineOfCoder, Sound}
 use Rattle.coder.specs.declared.inner.tables.Coder.{Coder}
 use Rattle.first_pair.specs.Reach.{Pairs, Into}
-use Rattle.first_pair.specs.Lowest.{LowestOf, Lowest, bytesAt}
+use Rattle.first_pair.specs.Lowest.{Lowest, bytesAt}
 pub use Rattle.first_pair.specs.Cost.{CostOf}
 use Rattle.first_pair.specs.Cost.{entry, endless}
 
@@ -74,7 +74,7 @@ pub record WriteAsked (next output : List ℕ) (inputs : ℕ) (t : List ℕ) (st
   pub room : 2 * (place + n) ≤ length before
 
 -- the bytes of n letters from `place` on are written, and no others
-pub record Kept (place n : ℕ) (before after : List ℕ) : Type 0 where
+pub record StaysOutside (place n : ℕ) (before after : List ℕ) : Type 0 where
   pub size : length after ≡ length before
   pub earlier : (p : ℕ) → p < 2 * place → getD after p 0 ≡ getD before p 0
   pub later : (p : ℕ) → 2 * (place + n) ≤ p → getD after p 0 ≡ getD before p 0
@@ -84,7 +84,7 @@ pub record Wrote (c : Coder) (t : List ℕ) (step base from n place : ℕ) (befo
   pub lowest : Lowest (machineOfCoder c) (CostOf t step base) n (from / 16) (from % 16) (bytesAt after place n) (r / 16) (r % 16)
   pub pair : PairOf c r
   pub inside : r < 256
-  pub kept : Kept place n before after
+  pub kept : StaysOutside place n before after
 
 -- for every coder whose arrays these are
 abbrev pub WriteDone : List ℕ → List ℕ → ℕ → List ℕ → ℕ → ℕ → ℕ → ℕ → ℕ → List ℕ → List ℕ → ℕ → Type 0

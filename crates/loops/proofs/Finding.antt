@@ -7,26 +7,24 @@ use lib.ListN.{length, getD, drop, length-drop}
 use lib.Seq.{ext-getD, getD-drop}
 use Rattle.mealy.specs.Machine.{Machine, Total}
 use Rattle.mealy.specs.Setting.{Setting, Bounded}
-use Rattle.mealy.specs.LoopedPair.{letters, mark}
-use Rattle.coder.specs.Table.{machineOfCoder, Sound}
+use Rattle.mealy.specs.LoopedPair.{mark}
+use Rattle.coder.specs.Table.{machineOfCoder}
 use Rattle.coder.specs.declared.inner.tables.Coder.{Coder}
 use Rattle.values.specs.Pair.{pairOf}
 use Rattle.values.specs.declared.LoopedPair.{LoopedPair}
-use Rattle.first_pair.specs.Reach.{Reach, At}
-use Rattle.first_pair.specs.Lowest.{Lowest, bytesAt}
+use Rattle.first_pair.specs.Lowest.{bytesAt}
 use Rattle.first_pair.specs.Cost.{CostOf, letter, outLetter}
 use Rattle.first_pair.specs.Successors.{SuccessorsOf}
 use Rattle.first_pair.specs.Found.{LengthsBy}
 use Rattle.first_pair.proofs.Writing.{bytes-same}
-use Rattle.first_pair.proofs.Lowest.{lowest-within}
 use Rattle.first_pair.proofs.Found.{back-cycle, back-shortest, forward-cycle, forward-shortest, found-first}
-use Rattle.letters.specs.Walk.{PairOf, Kept}
-use Rattle.loops.specs.Pair.{SomeValid, FoundPair}
-use Rattle.loops.specs.Parts.{settingIn, TablesOf, LengthsFrom, LengthsFound, ClosedAsked, ClosedWritten, BetweenFrom, BetweenWritten, LettersWritten}
+use Rattle.letters.specs.Walk.{PairOf, StaysOutside}
+use Rattle.loops.specs.Pair.{FoundPair}
+use Rattle.loops.specs.Parts.{settingIn, TablesOf, ClosedAsked, ClosedWritten, BetweenFrom, BetweenWritten, LettersWritten}
 use Rattle.loops.proofs.Keeping.{kept-then}
 
 -- the bytes past those written are as they were
-kept-rest : {n m : ℕ} {before after : List ℕ} → 2 * n ≡ m → Kept 0 n before after → drop m after ≡ drop m before
+kept-rest : {n m : ℕ} {before after : List ℕ} → 2 * n ≡ m → StaysOutside 0 n before after → drop m after ≡ drop m before
 kept-rest {n} {m} {before} {after} e k =
     ext-getD 0 (drop m after) (drop m before) (length-drop m after ∙ rw (k .size) (sym (length-drop m before)))
     (λ j l. getD-drop m after j 0 ∙ k .later (m + j) (omega arith) ∙ sym (getD-drop m before j 0))

@@ -3,10 +3,10 @@ use mathlib.Core.Path.{_≡_, _∙_}
 use mathlib.Core.List.{List}
 use Prim.Native.Nat.{ℕ, _+_}
 use native.Mathlib.Omega.{arith}
-use Rattle.letters.specs.Walk.{Kept}
+use Rattle.letters.specs.Walk.{StaysOutside}
 
 pub kept-then :
-    {place m n at : ℕ} {b₀ b₁ b₂ : List ℕ} → place + m ≡ at → Kept place m b₀ b₁ → Kept at n b₁ b₂ → Kept place (m + n) b₀ b₂
+    {place m n at : ℕ} {b₀ b₁ b₂ : List ℕ} → place + m ≡ at → StaysOutside place m b₀ b₁ → StaysOutside at n b₁ b₂ → StaysOutside place (m + n) b₀ b₂
 kept-then e h k =
     record {
       size = k .size ∙ h .size;

@@ -3,7 +3,6 @@ use Prim.Native.Nat.{ℕ, suc, _+_, _*_, _/_, _%_, _≤_, _<_}
 use mathlib.Core.Path.{_≡_}
 use mathlib.Core.List.{List}
 use lib.ListN.{length, getD}
-use Rattle.mealy.specs.Machine.{Machine}
 use Rattle.mealy.specs.Setting.{Setting, worded}
 use Rattle.mealy.specs.LoopedPair.{letters}
 use Rattle.coder.specs.Table.{machineOfCoder, Sound}
@@ -12,10 +11,10 @@ use Rattle.values.specs.Pair.{pairOf}
 use Rattle.values.specs.declared.LoopedPair.{LoopedPair}
 use Rattle.first_pair.specs.Reach.{Reach, At, Cycle, ConflictInto}
 use Rattle.first_pair.specs.Lowest.{LowestOf, Lowest, bytesAt}
-use Rattle.first_pair.specs.Cost.{CostTable, Only, Looped, Tail, Head, LeastCosts, CostOf, entry, letter, inLetter, outLetter, endless, tailCost, headCost}
+use Rattle.first_pair.specs.Cost.{CostTable, Only, Looped, Tail, Head, LeastCosts, CostOf, entry, letter, inLetter, outLetter, tailCost}
 use Rattle.first_pair.specs.Successors.{SuccessorsOf}
 use Rattle.first_pair.specs.Found.{LengthsBy, LettersBy}
-use Rattle.letters.specs.Walk.{PairOf, Kept}
+use Rattle.letters.specs.Walk.{PairOf, StaysOutside}
 use Rattle.loops.specs.Pair.{SomeValid}
 
 -- the setting of a coder's tables and words
@@ -80,7 +79,7 @@ pub record ClosedAsked (c : Coder) (words : List ℕ) (a n place : ℕ) (before 
 pub record ClosedWritten (c : Coder) (a n place : ℕ) (before after : List ℕ) : Type 0 where
   pub lowest :
       Lowest (machineOfCoder c) (Reach (machineOfCoder c) (At (a / 16) (a % 16))) n (a / 16) (a % 16) (bytesAt after place n) (a / 16) (a % 16)
-  pub kept : Kept place n before after
+  pub kept : StaysOutside place n before after
 
 -- ---- the differing letter
 
@@ -111,7 +110,7 @@ pub record MarkWritten (c : Coder) (conflicts tails : List ℕ) (a want place : 
   pub first : r / 16 ≡ machineOfCoder c .next (a / 16) (getD after (2 * place + 0) 0)
   pub second : r % 16 ≡ machineOfCoder c .next (a % 16) (getD after (2 * place + 1) 0)
   pub pair : PairOf c r
-  pub kept : Kept place 1 before after
+  pub kept : StaysOutside place 1 before after
 
 -- ---- the letters between the loops
 
@@ -145,7 +144,7 @@ pub record BetweenWritten (c : Coder) (starts : ℕ) (conflicts tails heads : Li
       (bytesAt after (suc (p .«back_loop» + p .«lead_in»)) (p .«lead_out»)) (r / 16) (r % 16)
   pub pair : PairOf c r
   pub inside : r < 256
-  pub kept : Kept (p .«back_loop») (p .«lead_in» + 1 + p .«lead_out») before after
+  pub kept : StaysOutside (p .«back_loop») (p .«lead_in» + 1 + p .«lead_out») before after
 
 abbrev pub BetweenDone : Coder → List ℕ → List ℕ → List ℕ → LoopedPair → List ℕ → List ℕ → ℕ → Type 0
 BetweenDone c conflicts tails heads p before after r =
@@ -165,7 +164,7 @@ pub record LettersWritten (c : Coder) (starts : ℕ) (conflicts tails heads : Li
   pub x : ℕ
   pub y : ℕ
   pub lowest : LettersBy (settingIn c starts conflicts) tails heads (pairOf p after) u v x y
-  pub kept : Kept 0 (letters (pairOf p after)) before after
+  pub kept : StaysOutside 0 (letters (pairOf p after)) before after
 
 abbrev pub LettersDone : Coder → List ℕ → List ℕ → List ℕ → LoopedPair → List ℕ → List ℕ → Type 0
 LettersDone c conflicts tails heads p before after =

@@ -1,5 +1,5 @@
 -- Each call from C leaves one outcome: two that meet its promise for the same arguments are equal, number and buffers.
-use mathlib.Core.Path.{_≡_, sym, ap, ap₂, _∙_}
+use mathlib.Core.Path.{_≡_, sym, ap, _∙_}
 use mathlib.Core.Bool.{Bool}
 use mathlib.Core.List.{List, [], _∷_}
 use Prim.Native.Nat.{ℕ, zero, suc}
@@ -16,7 +16,7 @@ use Rattle.values.specs.Order.{defaultOrder}
 use Rattle.values.proofs.Orders.{is-order}
 use Rattle.search.specs.declared.Verdict.{Verdict}
 use Rattle.search.proofs.Determined.{verdict-determined}
-use Rattle.checker.proofs.Judging.{judges-same}
+use Rattle.coder.proofs.Judging.{judges-same}
 use Rattle.layout.specs.Layout.{withFields, verdictFields, numberOf}
 use Rattle.lowhenita.specs.Host.{Hosted, BothStay, RunHosted, SearchHosted, BytesGiven, DecodeHosted, TableHosted, CheckHosted, WindowHosted}
 

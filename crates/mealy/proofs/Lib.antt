@@ -25,6 +25,8 @@ pub mod SameSettings
 pub mod PairBytes
 pub mod FirstPairs
 pub mod Words
-pub mod Members
 pub mod Images
+pub mod OneMore
+pub mod Members
+pub mod StepWords
 pub mod Leading

@@ -1,6 +1,6 @@
--- The members of a set one after the other: the least one, by the zeros below it, the word without it, and unions over all members.
-use mathlib.Core.Path.{_≡_, refl, sym, ap, subst, _∙_}
-use mathlib.Core.Logic.{_≢_, _⊎_, inl, inr, ⊎-elim}
+-- The members of a set one after the other: the least one, by the zeros below it, the word without it, which are passed, and unions over them.
+use mathlib.Core.Path.{_≡_, refl, sym, ap, _∙_}
+use mathlib.Core.Logic.{_≢_, inl, inr}
 use Prim.Native.Nat.{ℕ, zero, suc, _-_, _*_, _/_, _%_, _^_, _<_}
 use native.Mathlib.Decide.{ℕ-discrete, decLt}
 use native.Mathlib.Nat.{pow-suc, div-eq-of-lt, lt-of-lt-of-le}
@@ -10,7 +10,9 @@ use lib.Count.{trailingZeros}
 use lib.Pow.{pow-mono}
 use Rattle.mealy.specs.Word.{Has, Holds}
 use Rattle.mealy.specs.Image.{Image}
-use Rattle.mealy.proofs.Words.{holds-map, holds-none, holds-union, has-empty, halved}
+use Rattle.mealy.proofs.Words.{holds-map, holds-none, has-empty, halved}
+use Rattle.mealy.proofs.Images.{image-within}
+use Rattle.mealy.proofs.OneMore.{OneMore, holds-more}
 
 -- x is in the set of the word u, and v is the word of the others
 pub record Taken (u x v : ℕ) : Type 0 where
@@ -114,41 +116,57 @@ holds-member a x h = a .only x (has-below x (a .bound) h) h
 pub holds-itself : {u : ℕ} → u < 65536 → Holds (Has u) u
 holds-itself l = record { bound = l; below = λ x h. has-below x l h; has = λ x h. h; only = λ x m h. h }
 
--- the union so far: over those members of the set that are not in the rest
-pub record Passed (set rest : ℕ) (Q : ℕ → ℕ → Type 0) (so-far : ℕ) : Type 0 where
+-- Of a set, those members are passed that are not in the rest.
+pub record Rest (set rest : ℕ) : Type 0 where
   pub bound : rest < 65536
   pub within : (s : ℕ) → Has rest s → Has set s
-  pub holds : Holds (Image Q (λ s. Has set s × (Has rest s → ⊥))) so-far
+
+pub record IsPassed (set rest s : ℕ) : Type 0 where
+  pub member : Has set s
+  pub past : Has rest s → ⊥
+
+pub rest-whole : {set : ℕ} → set < 65536 → Rest set set
+rest-whole l = record { bound = l; within = λ s h. h }
+
+pub none-passed : {Q : ℕ → ℕ → Type 0} {set : ℕ} (y : ℕ) → Image Q (IsPassed set set) y → ⊥
+none-passed y i = i .from .past (i .from .member)
+
+pub all-passed : {set rest : ℕ} → rest ≡ 0 → (s : ℕ) → Has set s → IsPassed set rest s
+all-passed e s h = record { member = h; past = λ k. has-empty s (rw e at k) }
+
+module _ {set rest : ℕ} (a : Rest set rest) (n : rest ≢ 0) where
+  pub rest-less : Rest set (bitAnd rest (rest - 1))
+  rest-less =
+      let t = least-member 16 rest (a .bound) n .taken in
+      record { bound = omega (arith, t .less, a .bound); within = λ s k. a .within s (t .was s k) }
+
+  pub one-passed : OneMore (IsPassed set rest) (trailingZeros 16 rest) (IsPassed set (bitAnd rest (rest - 1)))
+  one-passed =
+      let x = trailingZeros 16 rest in
+      let t = least-member 16 rest (a .bound) n .taken in
+      record {
+        was = λ s p. record { member = p .member; past = λ k. p .past (t .was s k) };
+        new = record { member = a .within x (t .member); past = λ k. t .other x k refl };
+        only = λ s p. elim (ℕ-discrete s x) [
+          | yes e ↦ inr e
+          | no d ↦ inl (record { member = p .member; past = λ k. p .past (t .others s k d) })
+        ];
+      }
+
+-- the union so far
+pub record Passed (set rest : ℕ) (Q : ℕ → ℕ → Type 0) (so-far : ℕ) : Type 0 where
+  pub left : Rest set rest
+  pub holds : Holds (Image Q (IsPassed set rest)) so-far
 
 pub passed-none : {set : ℕ} {Q : ℕ → ℕ → Type 0} → set < 65536 → Passed set set Q 0
-passed-none l = record { bound = l; within = λ s h. h; holds = holds-none (λ t q. q .from .1 (q .from .0)) }
+passed-none l = record { left = rest-whole l; holds = holds-none none-passed }
 
 pub passed-more :
     {set rest so-far v : ℕ} {Q : ℕ → ℕ → Type 0} → Passed set rest Q so-far → rest ≢ 0 → Holds (Q (trailingZeros 16 rest)) v →
     Passed set (bitAnd rest (rest - 1)) Q (bitOr so-far v)
-passed-more {set} {rest} {so-far} {v} {Q} a n h =
-    let m = least-member 16 rest (a .bound) n in
-    let x = trailingZeros 16 rest in
-    let t = m .taken in
-    let rest′ = bitAnd rest (rest - 1) in
-    record {
-      bound = omega (arith, t .less, a .bound);
-      within = λ s k. a .within s (t .was s k);
-      holds =
-          holds-map {P = λ y. Image Q (λ s. Has set s × (Has rest s → ⊥)) y ⊎ Q x y}
-          (λ y. ⊎-elim
-          (λ i. record { s = i .s; from = (i .from .0, λ k. i .from .1 (t .was (i .s) k)); step = i .step })
-          (λ q. record { s = x; from = (a .within x (t .member), λ k. t .other x k refl); step = q }))
-          (λ y i. elim (ℕ-discrete (i .s) x) [
-            | yes e ↦ inr (subst (λ (s : ℕ). Q s y) e (i .step))
-            | no d ↦ inl (record { s = i .s; from = (i .from .0, λ k. i .from .1 (t .others (i .s) k d)); step = i .step })
-          ])
-          (holds-union (a .holds) h);
-    }
+passed-more a n h = record { left = rest-less (a .left) n; holds = holds-more (one-passed (a .left) n) (a .holds) h }
 
 pub passed-all :
     {set rest so-far : ℕ} {Q : ℕ → ℕ → Type 0} → Passed set rest Q so-far → rest ≡ 0 → Holds (Image Q (Has set)) so-far
 passed-all a e =
-    holds-map (λ y i. record { s = i .s; from = i .from .0; step = i .step })
-    (λ y i. record { s = i .s; from = (i .from, λ h. has-empty (i .s) (rw e at h)); step = i .step })
-    (a .holds)
+    holds-map (image-within (λ s y q. q) (λ s p. p .member)) (image-within (λ s y q. q) (all-passed e)) (a .holds)

@@ -75,8 +75,8 @@ has-alone x y h =
     ]
 
 -- the set of one letter, as it is made
-pub one-shifted : (x : ℕ) → x < 16 → 1 * 2 ^ x % 2 ^ 16 ≡ 2 ^ x
-one-shifted x l = shl-exact {a = 1} 1 x 16 (lit< tt) (omega arith) ∙ one-mul (2 ^ x)
+pub shifted : (w x : ℕ) → x < w → 1 * 2 ^ x % 2 ^ w ≡ 2 ^ x
+shifted w x l = shl-exact {a = 1} 1 x w (lit< tt) (omega arith) ∙ one-mul (2 ^ x)
 
 -- a set that is not empty has a greatest letter
 pub leading-high : (u : ℕ) → (u ≡ 0 → ⊥) → leadingZeros 16 u ≤ 15

@@ -29,7 +29,7 @@ use Rattle.search.specs.Search.{searchRefusal, wanted, PairReport, Says,
 use Rattle.search.specs.declared.Verdict.{Verdict}
 use Rattle.search.specs.declared.Verdict.the-variants.{Least, NoDecoder}
 use Rattle.search.specs.declared.SearchResult.{SearchResult}
-use Rattle.search.specs.declared.SearchResult.the-variants.{Refused, Found}
+use Rattle.search.specs.declared.SearchResult.the-variants.{Found}
 use Rattle.search.proofs.Files.{search-accepted}
 
 -- ---- a search that was not refused

@@ -4,7 +4,7 @@ ghost use Prim.Native.Nat.{ℕ, _+_, _<_, _≤_};
 ghost use lib.ListN.{length, getD};
 ghost use Rattle.first_pair.specs.Cost.{CostTable, Capped, endless};
 ghost use Rattle.first_pair.specs.Successors.{PairWords};
-ghost use Rattle.costs.specs.Settle.{RowCost, NextCost, PassAsked, Passed, SettleAsked, SettleDone};
+ghost use Rattle.costs.specs.Settle.{RowCost, NextCost, PassAsked, PassDone, SettleAsked, SettleDone};
 use coder::inner::tables::Coder;
 use first_pair::inner::ENDLESS;
 
@@ -61,7 +61,7 @@ fn least_of(t: &[usize; 256]) -> usize
 // whether any fell.
 fn pass(words: &[u16; 4096], states: usize, step: usize, low: usize, t: &mut [usize; 256]) -> bool
     requires { ⌜ PassAsked (now words) states step low (now t) ⌝ }
-    ensures { λ r. ⌜ Passed (now (words .entry)) states step low (now (t .entry)) (now (t .exit)) r ⌝ }
+    ensures { λ r. ⌜ PassDone (now (words .entry)) states step low (now (t .entry)) (now (t .exit)) r ⌝ }
 {
     let mut fell = false;
     let mut a = Coder::STATES * states;

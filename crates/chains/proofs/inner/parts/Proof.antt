@@ -1,4 +1,5 @@
 -- `parts` meets its contract: the first p places are set.
+use mathlib.Core.Path.{refl}
 use Prim.Native.Nat.{_≤_, _-_}
 use borrow.Author.Needs.{needs}
 use native.Mathlib.Omega.{arith}
@@ -8,13 +9,13 @@ use Rattle.chains.proofs.inner.parts.Statement.{statement}
 use Rattle.chains.proofs.inner.parts.Tie as tie
 
 abbrev Inv-loop : tie.InvT-loop
-Inv-loop letters a₀ p₀ a p = (p ≤ 256) × Filled 256 (placePart letters) p a
+Inv-loop letters a₀ p₀ a p = (p ≤ 256) × Filled 256 (placePart letters) a₀ p a
 
 abbrev μ-loop : tie.MeasureT-loop
 μ-loop letters a₀ p₀ a p = 256 - p
 
 loop-holds : tie.Need-loop-holds Inv-loop μ-loop
-loop-holds c = (search needs, filled-none _ _)
+loop-holds c = (search needs, filled-none refl)
 
 part-requires : tie.Need-part-requires Inv-loop μ-loop
 part-requires c κs = search needs

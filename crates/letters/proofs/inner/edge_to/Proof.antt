@@ -1,11 +1,8 @@
 -- `edge_to` meets its contract: one test after the other, and the cost last.
 use native.Mathlib.Omega.{arith}
 use Prim.Native.Nat.{_<_}
-use mathlib.Core.Path.{refl}
-use mathlib.Core.Bool.{false}
 use Rattle.letters.proofs.Edges.{cost-judged}
-use Rattle.coder.specs.Refusal.{Judges}
-use Rattle.coder.proofs.Refusals.{true-false}
+use Rattle.coder.proofs.Judging.{judges-not}
 use borrow.Author.Needs.{needs}
 use Rattle.letters.proofs.inner.edge_to.Statement.{statement}
 use Rattle.letters.proofs.inner.edge_to.Tie as tie
@@ -13,9 +10,6 @@ use Rattle.letters.proofs.inner.edge_to.Tie as tie
 -- the start of the call, seen from its end
 abbrev start : tie.After-number2 → tie.Start
 start n = n .before .before .before .before .before .before .before .before .before .before .before .before
-
-not-so : {A : Type 0} → (A → ⊥) → Judges A false
-not-so h = record { yes′ = λ e. absurd (true-false e refl); no′ = λ e. h }
 
 mul-p : tie.Need-mul-p
 mul-p c = search needs
@@ -84,16 +78,16 @@ returns c =
     (n₁ .number .ensures .0) (n₂ .number2 .ensures .0)
 
 returns-2 : tie.Need-returns-2
-returns-2 c = not-so (λ x. c .before .has .ensures .no′ (c .if4 .left) (x .within))
+returns-2 c = judges-not (λ x. c .before .has .ensures .no′ (c .if4 .left) (x .within))
 
 returns-3 : tie.Need-returns-3
-returns-3 c = not-so (λ x. c .if3 .left (x .same))
+returns-3 c = judges-not (λ x. c .if3 .left (x .same))
 
 returns-4 : tie.Need-returns-4
-returns-4 c = not-so (λ x. omega (arith, x .below₂))
+returns-4 c = judges-not (λ x. omega (arith, x .below₂))
 
 returns-5 : tie.Need-returns-5
-returns-5 c = not-so (λ x. omega (arith, x .below₁))
+returns-5 c = judges-not (λ x. omega (arith, x .below₁))
 
 pub edge-to-spec : {M : Type 1} → statement M
 edge-to-spec =

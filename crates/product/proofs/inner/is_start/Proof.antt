@@ -1,8 +1,7 @@
 -- `is_start` meets its contract: a state of the coder that is in the word.
 use borrow.Author.Needs.{needs}
 use native.Mathlib.Omega.{arith}
-use Rattle.coder.proofs.Refusals.{true-false}
-use mathlib.Core.Path.{refl}
+use Rattle.coder.proofs.Judging.{judges-map, judges-not}
 use Rattle.product.proofs.inner.is_start.Statement.{statement}
 use Rattle.product.proofs.inner.is_start.Tie as tie
 
@@ -10,10 +9,10 @@ has-requires : tie.Need-has-requires
 has-requires c κs = search needs
 
 returns : tie.Need-returns
-returns c = let j = c .has .ensures in record { yes′ = λ e. (c .before .if1 .taken, j .yes′ e); no′ = λ e p. j .no′ e (p .1) }
+returns c = judges-map (λ h. (c .before .if1 .taken, h)) (λ p. p .1) (c .has .ensures)
 
 returns-2 : tie.Need-returns-2
-returns-2 c = record { yes′ = λ e. absurd (true-false e refl); no′ = λ e p. let l = p .0 in omega arith }
+returns-2 c = judges-not (λ p. omega (arith, p .0))
 
 pub is-start-spec : {M : Type 1} → statement M
 is-start-spec = tie.close (tie.spec has-requires returns returns-2)

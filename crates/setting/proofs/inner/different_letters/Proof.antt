@@ -1,20 +1,22 @@
 -- `different_letters` meets its contract: the first i words are made.
 use mathlib.Core.Path.{refl, _≡_, ap}
-use Prim.Native.Nat.{_<_, _≤_, _-_}
+use Prim.Native.Nat.{_<_, _≤_, _-_, _^_}
 use borrow.Author.Needs.{needs}
 use native.Mathlib.Omega.{arith}
-use Rattle.setting.proofs.Numbers.{Made, made-none, made-more, made-all, shifted}
+use Rattle.mealy.proofs.Words.{shifted}
+use Rattle.coder.proofs.Fill.{Filled, filled-none, filled-more}
+use Rattle.setting.proofs.Numbers.{made-all}
 use Rattle.setting.proofs.inner.different_letters.Statement.{statement}
 use Rattle.setting.proofs.inner.different_letters.Tie as tie
 
 abbrev Inv-loop : tie.InvT-loop
-Inv-loop words₀ i₀ words i = (i ≤ 16) × Made i words
+Inv-loop words₀ i₀ words i = (i ≤ 16) × Filled 16 (λ j. 65535 - 2 ^ j) words₀ i words
 
 abbrev μ-loop : tie.MeasureT-loop
 μ-loop words₀ i₀ words i = 16 - i
 
 loop-holds : tie.Need-loop-holds Inv-loop μ-loop
-loop-holds c = (omega arith, made-none refl)
+loop-holds c = (omega arith, filled-none refl)
 
 cast-words : tie.Need-cast-words Inv-loop μ-loop
 cast-words c = search needs
@@ -38,7 +40,7 @@ loop-less : tie.Need-loop-less Inv-loop μ-loop
 loop-less c = search needs
 
 loop-again : tie.Need-loop-again Inv-loop μ-loop
-loop-again c = let i = c .before .loop .inv in let l : c .before .loop .i < 16 = omega arith in (omega arith, made-more (i .1) l (ap (λ x. 65535 - x) (shifted 16 _ l)))
+loop-again c = let i = c .before .loop .inv in let l : c .before .loop .i < 16 = omega arith in (omega arith, filled-more (i .1) l (ap (λ x. 65535 - x) (shifted 16 _ l)))
 
 returns : tie.Need-returns Inv-loop μ-loop
 returns c = let i = c .before .loop .inv in let e : c .before .loop .i ≡ 16 = omega arith in made-all (rw e at (i .1))

@@ -1,6 +1,6 @@
 -- `has` meets its contract: the bit is 1 or it is not.
-use borrow.Author.Tests.{eqb-true, eqb-false}
 use borrow.Author.Needs.{needs}
+use Rattle.coder.proofs.Judging.{equal-judges}
 use Rattle.setting.proofs.inner.has.Statement.{statement}
 use Rattle.setting.proofs.inner.has.Tie as tie
 
@@ -11,7 +11,7 @@ shr-result : tie.Need-shr-result
 shr-result c = search needs
 
 returns : tie.Need-returns
-returns c = record { yes′ = λ e. eqb-true _ _ e; no′ = λ e h. eqb-false _ _ e h }
+returns c = equal-judges _ _
 
 pub has-spec : {M : Type 1} → statement M
 has-spec = tie.close (tie.spec cast-result shr-result returns)

@@ -2,7 +2,8 @@
 use lib.Pow.{pow-pos}
 use borrow.Author.Needs.{needs}
 use native.Mathlib.Omega.{arith}
-use Rattle.setting.proofs.Numbers.{holds-all, shifted}
+use Rattle.mealy.proofs.Words.{shifted}
+use Rattle.setting.proofs.Numbers.{holds-all}
 use Rattle.setting.proofs.inner.start_states.Statement.{statement}
 use Rattle.setting.proofs.inner.start_states.Tie as tie
 

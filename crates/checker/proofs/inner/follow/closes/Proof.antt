@@ -5,7 +5,7 @@ use borrow.Author.Needs.{needs}
 use Rattle.mealy.specs.Walk.{Part}
 use Rattle.mealy.proofs.Walks.{walk-ends}
 use Rattle.coder.specs.Table.{machineOfCoder}
-use Rattle.checker.proofs.Judging.{judges-map, judges-not, equal-judges}
+use Rattle.coder.proofs.Judging.{judges-map, judges-not, equal-judges}
 use Rattle.checker.proofs.inner.follow.closes.Statement.{statement}
 use Rattle.checker.proofs.inner.follow.closes.Tie as tie
 

@@ -4,7 +4,7 @@ use borrow.Author.Needs.{needs}
 use denote.Ref.{now}
 use Rattle.mealy.specs.LoopedPair.{LoopedPair}
 use Rattle.values.specs.Pair.{pairOf}
-use Rattle.checker.proofs.Judging.{judges-not}
+use Rattle.coder.proofs.Judging.{judges-not}
 use Rattle.checker.proofs.PartsJudged.{follow-asked, followed-low, parts-judged}
 use Rattle.checker.proofs.inner.follow.parts.Statement.{statement}
 use Rattle.checker.proofs.inner.follow.parts.Tie as tie

@@ -11,7 +11,7 @@ use Rattle.coder.specs.Refusal.{Judges}
 use Rattle.coder.specs.Table.{machineOfCoder}
 use Rattle.coder.specs.declared.inner.tables.Coder.{Coder}
 use Rattle.values.specs.Pair.{pairOf}
-use Rattle.checker.proofs.Judging.{judges-map, judges-not}
+use Rattle.coder.proofs.Judging.{judges-map, judges-not}
 use Rattle.checker.proofs.PartsJudged.{mark-low}
 use Rattle.checker.proofs.Following.{letter-first}
 use Rattle.checker.proofs.inner.follow.valid.Statement.{statement}

@@ -9,7 +9,7 @@ use borrow.Author.Tests.{ne-eqb}
 use Rattle.mealy.specs.LoopedPair.{letters}
 use Rattle.values.specs.Pair.{pairOf}
 use Rattle.values.specs.declared.LoopedPair.{LoopedPair}
-use Rattle.checker.proofs.Judging.{eqb-same}
+use Rattle.coder.proofs.Judging.{eqb-same}
 use Rattle.checker.proofs.inner.refusal.twice.Statement.{statement}
 use Rattle.checker.proofs.inner.refusal.twice.Tie as tie
 

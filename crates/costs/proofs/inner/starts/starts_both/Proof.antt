@@ -1,8 +1,7 @@
 -- `starts_both` meets its contract: each test is one of the four parts.
 use borrow.Author.Needs.{needs}
-use mathlib.Core.Path.{refl}
 use native.Mathlib.Omega.{arith}
-use Rattle.coder.proofs.Refusals.{true-false}
+use Rattle.coder.proofs.Judging.{judges-map, judges-not}
 use Rattle.costs.proofs.inner.starts.starts_both.Statement.{statement}
 use Rattle.costs.proofs.inner.starts.starts_both.Tie as tie
 
@@ -14,26 +13,23 @@ has-requires-2 c κs = search needs
 
 returns : tie.Need-returns
 returns c =
-    let f = c .before .before .has .ensures .yes′ (c .before .if3 .taken) in
-    record {
-      yes′ = λ e.
-          record {
-            below₁ = c .before .before .before .before .if1 .taken;
-            below₂ = c .before .before .before .if2 .taken;
-            start₁ = f;
-            start₂ = c .has2 .ensures .yes′ e;
-          };
-      no′ = λ e s. c .has2 .ensures .no′ e (s .start₂);
-    }
+    judges-map
+    (λ h. record {
+      below₁ = c .before .before .before .before .if1 .taken;
+      below₂ = c .before .before .before .if2 .taken;
+      start₁ = c .before .before .has .ensures .yes′ (c .before .if3 .taken);
+      start₂ = h;
+    })
+    (λ s. s .start₂) (c .has2 .ensures)
 
 returns-2 : tie.Need-returns-2
-returns-2 c = record { yes′ = λ e. absurd (true-false e refl); no′ = λ e s. c .before .has .ensures .no′ (c .if3 .left) (s .start₁) }
+returns-2 c = judges-not (λ s. c .before .has .ensures .no′ (c .if3 .left) (s .start₁))
 
 returns-3 : tie.Need-returns-3
-returns-3 c = record { yes′ = λ e. absurd (true-false e refl); no′ = λ e s. let l = s .below₂ in omega arith }
+returns-3 c = judges-not (λ s. omega (arith, s .below₂))
 
 returns-4 : tie.Need-returns-4
-returns-4 c = record { yes′ = λ e. absurd (true-false e refl); no′ = λ e s. let l = s .below₁ in omega arith }
+returns-4 c = judges-not (λ s. omega (arith, s .below₁))
 
 pub starts-both-spec : {M : Type 1} → statement M
 starts-both-spec =

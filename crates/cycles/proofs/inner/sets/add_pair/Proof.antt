@@ -2,20 +2,21 @@
 use mathlib.Core.Path.{refl}
 use Prim.Native.Nat.{_≤_, _-_, _<_}
 use Rattle.cycles.specs.Successors.{wordAt}
-use Rattle.cycles.proofs.PairSets.{RowsBelow, besides, rows-none, rows-more, besides-all}
+use Rattle.coder.proofs.Fill.{Filled, filled-none, filled-more}
+use Rattle.cycles.proofs.PairSets.{besides, besides-all}
 use borrow.Author.Needs.{needs}
 use native.Mathlib.Omega.{arith}
 use Rattle.cycles.proofs.inner.sets.add_pair.Statement.{statement}
 use Rattle.cycles.proofs.inner.sets.add_pair.Tie as tie
 
 abbrev Inv-loop : tie.InvT-loop
-Inv-loop words a set₀ x₀ set x = (x ≤ 16) × RowsBelow (besides (wordAt words a) set₀) set₀ set x
+Inv-loop words a set₀ x₀ set x = (x ≤ 16) × Filled 16 (besides (wordAt words a) set₀) set₀ x set
 
 abbrev μ-loop : tie.MeasureT-loop
 μ-loop words a set₀ x₀ set x = 16 - x
 
 loop-holds : tie.Need-loop-holds Inv-loop μ-loop
-loop-holds c = (omega arith, rows-none (c .pre .2 .size))
+loop-holds c = (omega arith, filled-none (c .pre .2 .size))
 
 mul-set : tie.Need-mul-set Inv-loop μ-loop
 mul-set c = search needs
@@ -48,7 +49,7 @@ loop-less : tie.Need-loop-less Inv-loop μ-loop
 loop-less c = search needs
 
 loop-again : tie.Need-loop-again Inv-loop μ-loop
-loop-again c = let i = c .before .before .before .loop in let l : i .x < 16 = omega arith in (omega arith, rows-more (i .inv .1) l (rw (i .inv .1 .left (i .x) (omega arith)) refl))
+loop-again c = let i = c .before .before .before .loop in let l : i .x < 16 = omega arith in (omega arith, filled-more (i .inv .1) l (rw (i .inv .1 .left (i .x) (omega arith)) refl))
 
 returns : tie.Need-returns Inv-loop μ-loop
 returns c = let p = c .before .before in let i = c .before .loop in besides-all (i .inv .1) (omega arith) (p .pre .2) (λ x. p .pre .0 .bound _)

@@ -1,5 +1,4 @@
 -- `add_row` meets its contract: the set has the successors of the pairs whose v is not in the rest.
-use mathlib.Core.Path.{refl}
 use Rattle.mealy.proofs.Members.{LeastMember, least-member}
 use Rattle.cycles.proofs.PairSets.{RowPassed, row-none, row-more, row-all}
 use native.Mathlib.Omega.{arith}
@@ -17,7 +16,7 @@ loop-holds c = row-none (omega arith) (c .pre .2)
 
 -- the least member of the rest
 member : (c : tie.In-loop Inv-loop μ-loop) → LeastMember 16 (c .before .loop .rest)
-member c = least-member 16 _ (c .before .loop .inv .bound) (c .loop-test .taken)
+member c = least-member 16 _ (c .before .loop .inv .left .bound) (c .loop-test .taken)
 
 cast-v : tie.Need-cast-v Inv-loop μ-loop
 cast-v c = omega (arith, member c .below)
@@ -38,7 +37,7 @@ loop-less : tie.Need-loop-less Inv-loop μ-loop
 loop-less c = member (c .before .before) .taken .less
 
 loop-again : tie.Need-loop-again Inv-loop μ-loop
-loop-again c = row-more (c .before .before .before .loop .inv) (c .before .before .loop-test .taken) refl (c .add-pair .ensures)
+loop-again c = row-more (c .before .before .before .loop .inv) (c .before .before .loop-test .taken) (c .add-pair .ensures)
 
 returns : tie.Need-returns Inv-loop μ-loop
 returns c = row-all (c .before .loop .inv) (c .loop-test .left)

@@ -1,15 +1,16 @@
 -- `image` meets its contract: the set has what follows the pairs with a first state below u.
 use mathlib.Core.Path.{_≡_}
 use Prim.Native.Nat.{_≤_, _-_}
-use Rattle.cycles.proofs.PairSets.{image-none, image-more}
-use Rattle.cycles.specs.Successors.{FollowsSet, ExactlyPairs}
+use lib.ListN.{getD}
+use Rattle.cycles.proofs.PairSets.{SomeBelow, image-none, image-more, image-all}
+use Rattle.cycles.specs.Successors.{FollowsRow, ExactlyPairs}
 use borrow.Author.Needs.{needs}
 use native.Mathlib.Omega.{arith}
 use Rattle.cycles.proofs.inner.sets.image.Statement.{statement}
 use Rattle.cycles.proofs.inner.sets.image.Tie as tie
 
 abbrev Inv-loop : tie.InvT-loop
-Inv-loop words states set to₀ u₀ to u = (u ≤ states) × ExactlyPairs (FollowsSet words u set) to
+Inv-loop words states set to₀ u₀ to u = (u ≤ states) × ExactlyPairs (SomeBelow (λ v. FollowsRow words v (getD set v 0)) u) to
 
 abbrev μ-loop : tie.MeasureT-loop
 μ-loop words states set to₀ u₀ to u = states - u
@@ -39,7 +40,7 @@ loop-again : tie.Need-loop-again Inv-loop μ-loop
 loop-again c = (omega arith, image-more (c .before .before .before .before .loop .inv .1) (c .add-row .ensures))
 
 returns : tie.Need-returns Inv-loop μ-loop
-returns c = let e : c .before .loop .u ≡ c .before .before .before .args .states = omega arith in rw e at (c .before .loop .inv .1)
+returns c = let e : c .before .loop .u ≡ c .before .before .before .args .states = omega arith in image-all (rw e at (c .before .loop .inv .1))
 
 pub image-spec : {M : Type 1} → statement M
 image-spec =

@@ -3,7 +3,8 @@ use mathlib.Core.Path.{_≡_}
 use Prim.Native.Nat.{_<_, _*_, _/_, _-_, _≤_}
 use borrow.Author.Needs.{needs}
 use native.Mathlib.Omega.{arith}
-use Rattle.cycles.proofs.Filling.{StepsTaken, placeOf, GivesAt, steps-none, steps-more, steps-filled}
+use Rattle.mealy.proofs.StepWords.{StepsTaken, steps-none, steps-more}
+use Rattle.cycles.proofs.Filling.{placeOf, GivesAt, steps-filled}
 use Rattle.cycles.proofs.inner.successors.fill.Statement.{statement}
 use Rattle.cycles.proofs.inner.successors.fill.Tie as tie
 

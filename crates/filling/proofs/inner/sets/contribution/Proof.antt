@@ -4,7 +4,7 @@ use borrow.Author.Tests.{ne-eqb}
 use native.Mathlib.Omega.{arith}
 use Rattle.coder.proofs.Refusals.{tests}
 use Rattle.filling.specs.Sets.{contribution}
-use Rattle.mealy.proofs.Words.{one-shifted}
+use Rattle.mealy.proofs.Words.{shifted}
 use Rattle.filling.proofs.inner.sets.contribution.Statement.{statement}
 use Rattle.filling.proofs.inner.sets.contribution.Tie as tie
 
@@ -20,7 +20,7 @@ shl-result c = search needs
 
 returns-2 : tie.Need-returns-2
 unfolding contribution
-returns-2 c = rw (ne-eqb _ 0 (c .before .if1 .left), c .if2 .taken) (one-shifted _ (omega arith))
+returns-2 c = rw (ne-eqb _ 0 (c .before .if1 .left), c .if2 .taken) (shifted 16 _ (omega arith))
 
 returns-3 : tie.Need-returns-3
 unfolding contribution

@@ -1,19 +1,21 @@
 -- `start_sets` meets its contract. The first s sets are made.
 use Prim.Native.Nat.{_≤_, _-_}
-use Rattle.filling.proofs.Steps.{StartSetsMade, start-sets-none, start-sets-more, start-sets-all}
+use mathlib.Core.Path.{refl}
+use Rattle.coder.proofs.Fill.{Filled, filled-none, filled-more, filled-all}
+use Rattle.filling.proofs.Steps.{startSet}
 use borrow.Author.Needs.{needs}
 use native.Mathlib.Omega.{arith}
 use Rattle.filling.proofs.inner.sets.start_sets.Statement.{statement}
 use Rattle.filling.proofs.inner.sets.start_sets.Tie as tie
 
 abbrev Inv-loop : tie.InvT-loop
-Inv-loop starts v₀ s₀ v s = (s ≤ 16) × StartSetsMade starts s v
+Inv-loop starts v₀ s₀ v s = (s ≤ 16) × Filled 16 (startSet starts) v₀ s v
 
 abbrev μ-loop : tie.MeasureT-loop
 μ-loop starts v₀ s₀ v s = 16 - s
 
 loop-holds : tie.Need-loop-holds Inv-loop μ-loop
-loop-holds c = (search needs, start-sets-none)
+loop-holds c = (search needs, filled-none refl)
 
 cast-v : tie.Need-cast-v Inv-loop μ-loop
 cast-v c = search needs
@@ -34,10 +36,10 @@ loop-less : tie.Need-loop-less Inv-loop μ-loop
 loop-less c = search needs
 
 loop-again : tie.Need-loop-again Inv-loop μ-loop
-loop-again c = (search needs, start-sets-more (c .before .loop .inv .1) (c .loop-test .taken))
+loop-again c = (search needs, filled-more (c .before .loop .inv .1) (c .loop-test .taken) refl)
 
 returns : tie.Need-returns Inv-loop μ-loop
-returns c = start-sets-all (c .before .loop .inv .1) (omega arith)
+returns c = filled-all (c .before .loop .inv .1) (λ j l m. absurd (omega arith))
 
 pub start-sets-spec : {M : Type 1} → statement M
 start-sets-spec =

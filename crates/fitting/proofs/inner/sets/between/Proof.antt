@@ -18,7 +18,7 @@ loop-holds c = passed-none (omega arith)
 
 -- the least member of the rest
 member : (c : tie.In-loop Inv-loop μ-loop) → LeastMember 16 (c .before .loop .rest)
-member c = least-member 16 _ (c .before .loop .inv .bound) (c .loop-test .taken)
+member c = least-member 16 _ (c .before .loop .inv .left .bound) (c .loop-test .taken)
 
 cast-s : tie.Need-cast-s Inv-loop μ-loop
 cast-s c = omega (arith, member c .below)

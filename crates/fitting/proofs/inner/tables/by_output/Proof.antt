@@ -1,15 +1,18 @@
 -- `by_output` meets its contract: the words hold what the entries below place p give.
 use Prim.Native.Nat.{_<_, _*_, _-_, _≤_}
 use lib.ListN.{getD}
-use mathlib.Core.Path.{_≡_, refl}
+use mathlib.Core.Path.{_≡_}
 use borrow.Author.Needs.{needs}
 use native.Mathlib.Omega.{arith}
-use Rattle.fitting.proofs.Making.{Made, made-none, made-more}
+use Rattle.mealy.proofs.StepWords.{StepsTaken, steps-none, steps-more}
+use Rattle.fitting.specs.Tables.{Gives}
+use Rattle.fitting.proofs.Making.{wordOf, steps-by-output}
 use Rattle.fitting.proofs.inner.tables.by_output.Statement.{statement}
 use Rattle.fitting.proofs.inner.tables.by_output.Tie as tie
 
 abbrev Inv-loop : tie.InvT-loop
-Inv-loop keys values output states inputs words₀ p₀ words p = (p ≤ 16 * states) × Made keys values output inputs words p
+Inv-loop keys values output states inputs words₀ p₀ words p =
+    (p ≤ 16 * states) × StepsTaken (wordOf keys output) (Gives values inputs) 1024 p words
 
 abbrev μ-loop : tie.MeasureT-loop
 μ-loop keys values output states inputs words₀ p₀ words p = 16 * states - p
@@ -18,7 +21,7 @@ none-requires : tie.Need-none-requires Inv-loop μ-loop
 none-requires c κs = search needs
 
 loop-holds : tie.Need-loop-holds Inv-loop μ-loop
-loop-holds c = let e = c .«none» .ensures in (omega arith, made-none (e .0) (e .1))
+loop-holds c = let e = c .«none» .ensures in (omega arith, steps-none (e .0) (e .1))
 
 mul-loop : tie.Need-mul-loop Inv-loop μ-loop
 mul-loop c = search needs
@@ -70,10 +73,10 @@ loop-less : tie.Need-loop-less Inv-loop μ-loop
 loop-less c = search needs
 
 loop-again : tie.Need-loop-again Inv-loop μ-loop
-loop-again c = let i = c .before .before .before .before .loop in (omega arith, made-more (i .inv .1) (key-low (c .before)) (output-low (c .before)) (c .given .ensures) refl)
+loop-again c = let i = c .before .before .before .before .loop in (omega arith, steps-more (i .inv .1) (omega (arith, key-low (c .before), output-low (c .before))) (c .given .ensures))
 
 returns : tie.Need-returns Inv-loop μ-loop
-returns c = let i = c .before .loop in let e : i .p ≡ 16 * c .before .before .before .args .states = omega arith in record { size = i .inv .1 .size; holds = rw e at (i .inv .1 .holds) }
+returns c = let i = c .before .loop in let e : i .p ≡ 16 * c .before .before .before .args .states = omega arith in steps-by-output (c .before .before .before .pre .keys-high) (rw e at (i .inv .1))
 
 pub by-output-spec : {M : Type 1} → statement M
 by-output-spec =

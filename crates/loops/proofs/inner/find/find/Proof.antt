@@ -1,7 +1,6 @@
 -- `find` meets its contract: the tables of costs, the starts and lengths by them, and the letters.
 use borrow.Author.Needs.{needs}
 use mathlib.Core.Path.{refl}
-use mathlib.Core.List.{List}
 use Rattle.loops.specs.Parts.{LengthsFrom, BetweenFrom}
 use Rattle.loops.proofs.Finding.{found-pair}
 use Rattle.loops.proofs.inner.find.find.Statement.{statement}
