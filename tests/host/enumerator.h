@@ -117,10 +117,9 @@ int pair_refutes_window(const coder *c, const pair *p, size_t before, size_t aft
 
 /* ---- enumerator_first.c ---- */
 
-/* The first of all valid pairs of a coder, of any length: the one with fewest letters in all; of
-   several with as many the lowest, comparing s, t, the lengths of back loop, lead-in, lead-out and
-   forward loop, then the bytes of the letters in order. exists: UNKNOWN where the allowance did not
-   suffice. */
+/* The first of all valid pairs of a coder, of any length (document 02, 2/13). The number of all letters
+   decides; then s; t; the four lengths as they stand in the struct; then byte after byte. exists:
+   UNKNOWN where the allowance did not suffice. */
 typedef struct first_pair {
     enum answer exists;
     pair pair; /* its letters are the bytes */

@@ -18,8 +18,8 @@ use Rattle.coder.specs.declared.inner.tables.Coder.{Coder}
 use Rattle.coder.proofs.Fill.{getD-table}
 use Rattle.coder.proofs.Tables.{table-place, table-at, next-high, output-high}
 use Rattle.chains.specs.Parts.{placePart}
-use Rattle.first_pair.specs.Reach.{Conflicting}
-use Rattle.first_pair.specs.Cost.{Capped, LeastCosts, Tail, Marked, entry, letter, endless}
+use Rattle.first_pair.specs.Reach.{SomeConflictInto}
+use Rattle.first_pair.specs.Cost.{Capped, LeastCosts, Tail, Marked, entry, letterCost, noCost}
 use Rattle.costs.specs.Marked.{OnLetters, OnConflict, EdgesAsked, MarkedAsked, MarkedDone}
 use Rattle.mealy.proofs.Words.{has-and, has-both}
 use Rattle.first_pair.proofs.Capping.{capped-map}
@@ -125,12 +125,12 @@ module _ {c : Coder} {letters : List ℕ} (a : MarkedAsked c letters) where
     small i = let h = a .sound .inputs-high in omega arith
 
     -- the cost of the pair that an edge leads to
-    target : (i j : ℕ) → Capped (λ n. Tail M n (M .next u i) (M .next v j)) endless (entry t (M .next u i) (M .next v j))
+    target : (i j : ℕ) → Capped (λ n. Tail M n (M .next u i) (M .next v j)) noCost (entry t (M .next u i) (M .next v j))
     target i j = costs .at (M .next u i) (M .next v j) (a .sound .next-state u i) (a .sound .next-state v j)
 
     -- a cost on a conflicting edge in the arrays is the cost of a tail behind that edge, and the other way round
     cost-edge :
-        {n : ℕ} → n < endless → OnConflict (c .next) (c .output) letters conflicts t (c .inputs) u v n → Conflicting S (Tail M n) u v
+        {n : ℕ} → n < noCost → OnConflict (c .next) (c .output) letters conflicts t (c .inputs) u v n → SomeConflictInto S (Tail M n) u v
     cost-edge {n} k o =
         let i = o .i in
         let j = o .j in
@@ -157,7 +157,7 @@ module _ {c : Coder} {letters : List ℕ} (a : MarkedAsked c letters) where
           };
         }
 
-    edge-cost : {n : ℕ} (e : Conflicting S (Tail M n) u v) →
+    edge-cost : {n : ℕ} (e : SomeConflictInto S (Tail M n) u v) →
         OnConflict (c .next) (c .output) letters conflicts t (c .inputs) u v (entry t (M .next u (e .i)) (M .next v (e .j)))
     edge-cost e =
         let i = e .i in
@@ -173,8 +173,8 @@ module _ {c : Coder} {letters : List ℕ} (a : MarkedAsked c letters) where
           is = rw (table-place (c .next) u i (small (d .below₁)), table-place (c .next) v j (small (d .below₂)));
         }
 
-    pub marked-cost : {r : ℕ} → Capped (OnConflict (c .next) (c .output) letters conflicts t (c .inputs) u v) (endless - letter) r →
-        Capped (λ k. Marked S k u v) endless (letter + r)
+    pub marked-cost : {r : ℕ} → Capped (OnConflict (c .next) (c .output) letters conflicts t (c .inputs) u v) (noCost - letterCost) r →
+        Capped (λ k. Marked S k u v) noCost (letterCost + r)
     marked-cost {r} o =
         let h = o .high in
         record {
@@ -191,8 +191,8 @@ module _ {c : Coder} {letters : List ℕ} (a : MarkedAsked c letters) where
 -- the cost at the place k of the table, as the code makes it
 pub record PlaceCost (c : Coder) (letters conflicts t : List ℕ) (k n : ℕ) : Type 0 where
   pub r : ℕ
-  pub capped : Capped (OnConflict (c .next) (c .output) letters conflicts t (c .inputs) (k / 16) (k % 16)) (endless - letter) r
-  pub is : letter + r ≡ n
+  pub capped : Capped (OnConflict (c .next) (c .output) letters conflicts t (c .inputs) (k / 16) (k % 16)) (noCost - letterCost) r
+  pub is : letterCost + r ≡ n
 
 -- the first a places have it
 pub record CostsBelow (Q : ℕ → ℕ → Type 0) (a : ℕ) (table : List ℕ) : Type 0 where
@@ -218,9 +218,9 @@ module _ {c : Coder} {letters conflicts t : List ℕ} (asked : MarkedAsked c let
   place-cost :
       (starts : ℕ) → LeastCosts (c .states) (Tail (machineOfCoder c)) t → (u v : ℕ) → u < c .states → v < c .states → {k n : ℕ} →
       PlaceCost c letters conflicts t k n → k / 16 ≡ u → k % 16 ≡ v →
-      Capped (λ m. Marked (worded (machineOfCoder c) starts conflicts) m u v) endless n
+      Capped (λ m. Marked (worded (machineOfCoder c) starts conflicts) m u v) noCost n
   place-cost starts costs u v l m p e f =
-      subst (λ (n : ℕ). Capped (λ m. Marked (worded (machineOfCoder c) starts conflicts) m u v) endless n) (p .is)
+      subst (λ (n : ℕ). Capped (λ m. Marked (worded (machineOfCoder c) starts conflicts) m u v) noCost n) (p .is)
       (marked-cost asked conflicts starts costs u v l m (rw (e, f) at (p .capped)))
 
   pub marked-done :

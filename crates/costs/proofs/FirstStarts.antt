@@ -4,7 +4,7 @@ use mathlib.Core.List.{List}
 use Prim.Native.Nat.{ℕ, _+_, _*_, _<_, _≤_}
 use native.Mathlib.Decide.{ℕ-discrete}
 use native.Mathlib.Omega.{arith}
-use Rattle.first_pair.specs.Cost.{limit}
+use Rattle.first_pair.specs.Cost.{tooLong}
 use Rattle.costs.specs.Starts.{totalOf, StartPair, FirstStart}
 
 -- of the numbers below a with P: the least total, and the first number that has it, where one is below the cap
@@ -16,8 +16,8 @@ pub record FirstBelow (P : ℕ → Type 0) (total : ℕ → ℕ) (cap fewest fir
   pub before : fewest < cap → (b : ℕ) → b < a → P b → total b ≡ fewest → first ≤ b
   pub passed : fewest < cap → first < a
 
-pub first-none : {P : ℕ → Type 0} {total : ℕ → ℕ} {cap first : ℕ} → FirstBelow P total cap cap first 0
-first-none =
+pub start-none : {P : ℕ → Type 0} {total : ℕ → ℕ} {cap first : ℕ} → FirstBelow P total cap cap first 0
+start-none =
     record {
       high = omega arith;
       least = λ b l p. absurd (omega arith);
@@ -29,8 +29,8 @@ first-none =
 
 module _ {P : ℕ → Type 0} {total : ℕ → ℕ} {cap fewest first a : ℕ} (f : FirstBelow P total cap fewest first a) where
   -- a does not change it: it has not P, or no lower total
-  pub first-kept : (P a → fewest ≤ total a) → FirstBelow P total cap fewest first (a + 1)
-  first-kept h =
+  pub start-kept : (P a → fewest ≤ total a) → FirstBelow P total cap fewest first (a + 1)
+  start-kept h =
       record {
         high = f .high;
         least = λ b l p. elim (ℕ-discrete b a) [
@@ -47,8 +47,8 @@ module _ {P : ℕ → Type 0} {total : ℕ → ℕ} {cap fewest first a : ℕ} (
       }
 
   -- a has P and a lower total
-  pub first-lower : {n : ℕ} → P a → n ≡ total a → n < fewest → FirstBelow P total cap n a (a + 1)
-  first-lower {n} p e l =
+  pub start-lower : {n : ℕ} → P a → n ≡ total a → n < fewest → FirstBelow P total cap n a (a + 1)
+  start-lower {n} p e l =
       let h = f .high in
       record {
         high = omega arith;
@@ -69,12 +69,12 @@ module _ {P : ℕ → Type 0} {total : ℕ → ℕ} {cap fewest first a : ℕ} (
 pair-below : {states starts b : ℕ} → StartPair states starts b → b < 16 * states
 pair-below s = let l = s .below₁ in omega arith
 
-pub first-found :
+pub start-found :
     {states starts fewest first a : ℕ} {loops heads : List ℕ} →
-    FirstBelow (StartPair states starts) (totalOf loops heads) limit fewest first a → 16 * states ≤ a →
-    (b : ℕ) → StartPair states starts b → totalOf loops heads b < limit → FirstStart states starts loops heads first
-first-found {states} {starts} {fewest} {first} {a} {loops} {heads} f l b s m =
-    let k : fewest < limit = omega (arith, f .least b (omega (arith, pair-below s)) s) in
+    FirstBelow (StartPair states starts) (totalOf loops heads) tooLong fewest first a → 16 * states ≤ a →
+    (b : ℕ) → StartPair states starts b → totalOf loops heads b < tooLong → FirstStart states starts loops heads first
+start-found {states} {starts} {fewest} {first} {a} {loops} {heads} f l b s m =
+    let k : fewest < tooLong = omega (arith, f .least b (omega (arith, pair-below s)) s) in
     let e : totalOf loops heads first ≡ fewest = f .has k in
     record {
       start = f .is k;

@@ -1,4 +1,4 @@
--- Laws that other crates cite.
-pub mod Settling
+-- The laws of least costs: lowering, conflicting edges, the first start.
+pub mod Lowering
 pub mod ConflictCosts
 pub mod FirstStarts

@@ -1,4 +1,4 @@
 -- What the contracts of least costs cite.
-pub mod Settle
+pub mod Lowering
 pub mod Marked
 pub mod Starts

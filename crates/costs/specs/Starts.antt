@@ -1,14 +1,9 @@
 -- The pair of start states with the fewest letters in all, of these the first.
-use Prim.Native.Nat.{ℕ, _+_, _/_, _%_, _≤_, _<_}
+use Prim.Native.Nat.{ℕ, _/_, _%_, _≤_, _<_}
 use mathlib.Core.Path.{_≡_}
 use mathlib.Core.List.{List}
-use lib.ListN.{getD}
 use Rattle.mealy.specs.Word.{Has}
-use Rattle.first_pair.specs.Cost.{letter}
-
--- the letters in all of the pair a: those of the back loop, and those after it
-abbrev pub totalOf : List ℕ → List ℕ → ℕ → ℕ
-totalOf loops heads a = (getD loops a 0 + getD heads a 0) / letter
+pub use Rattle.first_pair.specs.Found.{totalOf}
 
 -- both states of the pair a are start states
 pub record StartPair (states starts a : ℕ) : Type 0 where

@@ -13,7 +13,7 @@ use Rattle.mealy.specs.Machine.{Machine, Total}
 use Rattle.mealy.proofs.Edges.{neighbour-map}
 use Rattle.mealy.proofs.Words.{has-empty}
 use Rattle.first_pair.specs.Reach.{Reach, At, Cycle, Joined}
-use Rattle.cycles.specs.Successors.{In, Rows, wordAt, SuccessorsOf, WithBesides, FollowsSet, ExactlyPairs, Parted, limit, CycleFound}
+use Rattle.cycles.specs.Successors.{In, Rows, wordAt, SuccessorsOf, WithBesides, FollowsSet, ExactlyPairs, Parted, tooLong, CycleFound}
 use Rattle.cycles.proofs.PairSets.{in-below}
 
 -- ---- the last letter of a walk
@@ -202,17 +202,17 @@ module _ {M : Machine} {words : List ℕ} (S : SuccessorsOf M words) {u v : ℕ}
 
 -- what `cycle` ensures
 abbrev Found : List ℕ → ℕ → ℕ → ℕ → ℕ → Type 0
-Found words states u v r = (r ≤ limit) × CycleFound words states u v r
+Found words states u v r = (r ≤ tooLong) × CycleFound words states u v r
 
 capped-limit :
     {words : List ℕ} {states u v : ℕ} →
-    ((M : Machine) → SuccessorsOf M words → M .states ≡ states → (n : ℕ) → Cycle M n u v → limit ≤ n) → Found words states u v limit
+    ((M : Machine) → SuccessorsOf M words → M .states ≡ states → (n : ℕ) → Cycle M n u v → tooLong ≤ n) → Found words states u v tooLong
 capped-limit f = (omega arith, λ M S e. record { high = omega arith; holds = λ h. absurd (omega arith); least = f M S e })
 
 -- after k letters, whatever machine has these successors
 pub record Searched (words : List ℕ) (states u v k : ℕ) (set seen : List ℕ) (r : Bool) : Type 0 where
   pub low : 0 < k
-  pub high : k < limit
+  pub high : k < tooLong
   pub rows : Rows set
   pub rows′ : Rows seen
   pub none : r ≡ false → (x y : ℕ) → x < 16 → In set x y → ⊥
@@ -235,7 +235,7 @@ module _ {words : List ℕ} {states u v : ℕ} (k : u < states) (l : v < states)
 
   module _ {n : ℕ} {set seen : List ℕ} {r : Bool} (s : Searched words states u v n set seen r) where
     pub searched-more :
-        {to set′ seen′ : List ℕ} {r′ : Bool} → (In set u v → ⊥) → n + 1 < limit → ExactlyPairs (FollowsSet words states set) to →
+        {to set′ seen′ : List ℕ} {r′ : Bool} → (In set u v → ⊥) → n + 1 < tooLong → ExactlyPairs (FollowsSet words states set) to →
         Parted to seen set′ seen′ r′ → Searched words states u v (n + 1) set′ seen′ r′
     searched-more {to} {set′} {seen′} {r′} not h w p =
         record {
@@ -258,12 +258,12 @@ module _ {words : List ℕ} {states u v : ℕ} (k : u < states) (l : v < states)
     )
 
     -- it has not, and there are too many letters
-    pub searched-limit : (In set u v → ⊥) → n + 1 ≡ limit → Found words states u v limit
+    pub searched-limit : (In set u v → ⊥) → n + 1 ≡ tooLong → Found words states u v tooLong
     searched-limit not q =
         capped-limit (λ M S e j c. omega (arith, met-longer S (omega arith) (omega arith) (s .met M S e) (s .low) not j c))
 
     -- there is no pair left
-    pub searched-ended : r ≡ false → Found words states u v limit
+    pub searched-ended : r ≡ false → Found words states u v tooLong
     searched-ended q =
         let none : (x y : ℕ) → In set x y → ⊥ = λ x y h. s .none q x y (in-below (s .rows) x y h .0) h in
         capped-limit (λ M S e j c.

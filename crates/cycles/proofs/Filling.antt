@@ -6,7 +6,7 @@ use native.Mathlib.Omega.{arith}
 use lib.ListN.{getD}
 use Rattle.mealy.proofs.Members.{holds-member}
 use Rattle.mealy.proofs.StepWords.{StepGives, StepsTaken, steps-bound}
-use Rattle.cycles.specs.Successors.{GivesOutput, StateJoins, FillDone}
+use Rattle.cycles.specs.Successors.{GivesOutput, StateJoins, SuccessorsFilled}
 
 -- Step 16 p + v: the entry at place p, and those of state v with its output.
 abbrev pub placeOf : List ℕ → ℕ → ℕ
@@ -17,7 +17,7 @@ GivesAt output to inputs k y = GivesOutput output to inputs (k / 16) (k % 16) y
 
 pub steps-filled :
     {next output to : List ℕ} {states inputs : ℕ} {words : List ℕ} → states ≤ 16 → ((p : ℕ) → getD next p 0 < 16) →
-    StepsTaken (placeOf next) (GivesAt output to inputs) 4096 (256 * states) words → FillDone next output to states inputs words
+    StepsTaken (placeOf next) (GivesAt output to inputs) 4096 (256 * states) words → SuccessorsFilled next output to states inputs words
 steps-filled {next} {output} {to} {states} {inputs} {words} high low t =
     record {
       shape = record { size = t .long; bound = steps-bound t };

@@ -1,4 +1,4 @@
--- Laws that other crates cite.
+-- The laws of successors, of sets of pairs and of closed walks.
 pub mod Filling
 pub mod Meaning
 pub mod PairSets

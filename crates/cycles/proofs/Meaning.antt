@@ -16,12 +16,12 @@ use Rattle.chains.specs.Parts.{placePart, placeParts}
 use Rattle.fitting.specs.Tables.{GivenBelow, ByOutput}
 use Rattle.fitting.proofs.Meaning.{next-low}
 use Rattle.first_pair.specs.Reach.{Joined}
-use Rattle.cycles.specs.Successors.{FillAsked, StateJoins, FillDone, SuccessorsOf}
+use Rattle.cycles.specs.Successors.{SuccessorsAsked, StateJoins, SuccessorsFilled, SuccessorsOf}
 
 module _ {c : Coder} (s : Sound c) {to : List ℕ}
     (b : ByOutput (placeParts false) (c .next) (c .output) (c .states) (c .inputs) to) where
   -- what filling asks
-  pub fill-asked : FillAsked (c .next) (c .output) to (c .states)
+  pub fill-asked : SuccessorsAsked (c .next) (c .output) to (c .states)
   fill-asked =
       record {
         states-high = s .states-high;
@@ -84,7 +84,7 @@ module _ {c : Coder} (s : Sound c) {to : List ℕ}
         }
 
   pub filled-successors :
-      {words : List ℕ} → FillDone (c .next) (c .output) to (c .states) (c .inputs) words →
+      {words : List ℕ} → SuccessorsFilled (c .next) (c .output) to (c .states) (c .inputs) words →
       SuccessorsOf (machineOfCoder c) words
   filled-successors f =
       let h = s .states-high in

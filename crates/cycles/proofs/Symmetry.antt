@@ -12,8 +12,8 @@ use Rattle.mealy.specs.Product.{forward}
 use Rattle.mealy.proofs.Edges.{neighbour-swap}
 use Rattle.first_pair.specs.Reach.{Pairs, Reach, Cycle}
 use Rattle.first_pair.proofs.Capping.{capped-map}
-use Rattle.first_pair.specs.Cost.{Capped, Looped, letter, endless, entry}
-use Rattle.cycles.specs.Successors.{SuccessorsOf, LoopsFound, limit}
+use Rattle.first_pair.specs.Cost.{Capped, Looped, letterCost, noCost, entry}
+use Rattle.cycles.specs.Successors.{SuccessorsOf, LoopsFound, tooLong}
 
 -- ---- the runs exchanged
 
@@ -31,7 +31,7 @@ looped-swap {M} {m} {u} {v} a =
 
 -- ---- costs
 
-pub looped-cost : {M : Machine} {u v r : ℕ} → Capped (λ n. Cycle M n u v) limit r → Capped (λ m. Looped M m u v) endless (letter * r)
+pub looped-cost : {M : Machine} {u v r : ℕ} → Capped (λ n. Cycle M n u v) tooLong r → Capped (λ m. Looped M m u v) noCost (letterCost * r)
 looped-cost {M} {u} {v} {r} a =
     record {
       high = omega (arith, a .high);
@@ -53,20 +53,20 @@ unwritten t p q c x m n = getD-set-other (set t p c) q x c 0 n ∙ getD-set-othe
 -- c is the cost of a closed walk at (u, v), whatever machine has these successors
 abbrev pub CostFound : List ℕ → ℕ → ℕ → ℕ → ℕ → Type 0
 CostFound words states u v c =
-    (M : Machine) → SuccessorsOf M words → M .states ≡ states → Capped (λ m. Looped M m u v) endless c
+    (M : Machine) → SuccessorsOf M words → M .states ≡ states → Capped (λ m. Looped M m u v) noCost c
 
 -- the table has the costs of the pairs (u, v), v ≤ u, below place a, and the same at (v, u)
-pub record CostsBelow (words : List ℕ) (states : ℕ) (t : List ℕ) (a : ℕ) : Type 0 where
+pub record LoopsBelow (words : List ℕ) (states : ℕ) (t : List ℕ) (a : ℕ) : Type 0 where
   pub size : length t ≡ 256
   pub at : (u v : ℕ) → u < 16 → v ≤ u → 16 * u + v < a → CostFound words states u v (entry t u v)
   pub same : (u v : ℕ) → u < 16 → v ≤ u → 16 * u + v < a → entry t v u ≡ entry t u v
 
 module _ {words : List ℕ} {states : ℕ} where
-  pub costs-none : {t : List ℕ} → length t ≡ 256 → CostsBelow words states t 0
+  pub costs-none : {t : List ℕ} → length t ≡ 256 → LoopsBelow words states t 0
   costs-none e = record { size = e; at = λ u v k l m. absurd (omega arith); same = λ u v k l m. absurd (omega arith) }
 
   -- a place whose pair is met the other way round
-  pub costs-skip : {t : List ℕ} {a : ℕ} → CostsBelow words states t a → a / 16 < a % 16 → CostsBelow words states t (a + 1)
+  pub costs-skip : {t : List ℕ} {a : ℕ} → LoopsBelow words states t a → a / 16 < a % 16 → LoopsBelow words states t (a + 1)
   costs-skip w l =
       record {
         size = w .size;
@@ -75,8 +75,8 @@ module _ {words : List ℕ} {states : ℕ} where
       }
 
   pub costs-more :
-      {t : List ℕ} {a c : ℕ} (u v : ℕ) → CostsBelow words states t a → a ≡ 16 * u + v → u < 16 → v ≤ u → CostFound words states u v c →
-      CostsBelow words states (set (set t (16 * u + v) c) (16 * v + u) c) (a + 1)
+      {t : List ℕ} {a c : ℕ} (u v : ℕ) → LoopsBelow words states t a → a ≡ 16 * u + v → u < 16 → v ≤ u → CostFound words states u v c →
+      LoopsBelow words states (set (set t (16 * u + v) c) (16 * v + u) c) (a + 1)
   costs-more {t} {a} {c} u v w e k l f =
       let p = 16 * u + v in
       let q = 16 * v + u in
@@ -103,7 +103,7 @@ module _ {words : List ℕ} {states : ℕ} where
         ];
       }
 
-  pub costs-all : {t : List ℕ} {a : ℕ} → CostsBelow words states t a → a ≡ 16 * states → states ≤ 16 → LoopsFound words states t
+  pub costs-all : {t : List ℕ} {a : ℕ} → LoopsBelow words states t a → a ≡ 16 * states → states ≤ 16 → LoopsFound words states t
   costs-all {t} {a} w e l M S s =
       record {
         size = w .size;

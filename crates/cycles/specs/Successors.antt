@@ -9,7 +9,7 @@ use Rattle.mealy.specs.Machine.{Machine}
 use Rattle.mealy.specs.Word.{Has}
 use Rattle.first_pair.specs.Reach.{Cycle}
 pub use Rattle.first_pair.specs.Successors.{wordAt, PairWords, SuccessorsOf}
-pub use Rattle.first_pair.specs.Cost.{limit}
+pub use Rattle.first_pair.specs.Cost.{tooLong}
 use Rattle.first_pair.specs.Cost.{Capped, LeastCosts, Looped}
 
 -- the pair (x, y) is in a set
@@ -29,7 +29,7 @@ abbrev pub GivesOutput : List ℕ → List ℕ → ℕ → ℕ → ℕ → ℕ �
 GivesOutput output to inputs p v y = (p % 16 < inputs) × Has (getD to (16 * getD output p 0 + v) 0) y
 
 -- what filling asks
-pub record FillAsked (next output to : List ℕ) (states : ℕ) : Type 0 where
+pub record SuccessorsAsked (next output to : List ℕ) (states : ℕ) : Type 0 where
   pub states-high : states ≤ 16
   pub next-high : (p : ℕ) → getD next p 0 < 16
   pub output-high : (p : ℕ) → getD output p 0 < 64
@@ -43,7 +43,7 @@ pub record StateJoins (next output to : List ℕ) (inputs u v x y : ℕ) : Type 
   pub second : GivesOutput output to inputs (16 * u + i) v y
 
 -- word x of each pair (u, v), u below the number of states, has the y that these lead to
-pub record FillDone (next output to : List ℕ) (states inputs : ℕ) (words : List ℕ) : Type 0 where
+pub record SuccessorsFilled (next output to : List ℕ) (states inputs : ℕ) (words : List ℕ) : Type 0 where
   pub shape : PairWords words
   pub has :
       (u v x y : ℕ) → u < states → v < 16 → x < 16 → StateJoins next output to inputs u v x y → Has (wordAt words (16 * u + v) x) y
@@ -87,7 +87,7 @@ pub record Parted (to seen to′ seen′ : List ℕ) (r : Bool) : Type 0 where
 -- the letters of the shortest closed walk at (u, v), whatever machine has these successors
 abbrev pub CycleFound : List ℕ → ℕ → ℕ → ℕ → ℕ → Type 0
 CycleFound words states u v r =
-    (M : Machine) → SuccessorsOf M words → M .states ≡ states → Capped (λ n. Cycle M n u v) limit r
+    (M : Machine) → SuccessorsOf M words → M .states ≡ states → Capped (λ n. Cycle M n u v) tooLong r
 
 -- the cost of a closed walk at each pair
 abbrev pub LoopsFound : List ℕ → ℕ → List ℕ → Type 0

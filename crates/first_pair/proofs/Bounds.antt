@@ -8,7 +8,7 @@ use Rattle.mealy.specs.Product.{Edge}
 use Rattle.mealy.specs.LoopedPair.{LoopedPair, first, second, letterAt, mark, unlooped, letters, Valid, Short}
 use Rattle.mealy.specs.First.{First}
 use Rattle.mealy.proofs.Runs.{edge-start}
-use Rattle.first_pair.specs.Reach.{Reach, At, Cycle, Conflicting}
+use Rattle.first_pair.specs.Reach.{Reach, At, Cycle, SomeConflictInto}
 use Rattle.first_pair.proofs.Reaching.{edge-into, reach-end, leads-reach}
 use Rattle.first_pair.proofs.Parts.{stateAt, valid-edges, edges-leads}
 use Rattle.first_pair.proofs.Making.{possible-valid}
@@ -45,7 +45,7 @@ module _ (S : Setting) (closed : Closed S) (bounded : Bounded S) (p : LoopedPair
   -- the conflicting edge, with another lead-out and forward loop
   conflicting :
       (lo fl : ℕ) → Reach M (Cycle M fl) lo (σ (suc (mark p))) (τ (suc (mark p))) →
-      Conflicting S (Reach M (Cycle M fl) lo) (σ (mark p)) (τ (mark p))
+      SomeConflictInto S (Reach M (Cycle M fl) lo) (σ (mark p)) (τ (mark p))
   conflicting lo fl r =
       record { i = _; j = _; edge = record { conflict = w .conflict; into = edge-into (edge (mark p) (omega arith)) r } }
 
@@ -56,7 +56,7 @@ module _ (S : Setting) (closed : Closed S) (bounded : Bounded S) (p : LoopedPair
   fewest at bl li lo fl l c r o =
       let z = starts at l in
       let q = possible-valid S (σ at) (τ at) bl li lo fl (bl + li + 1 + lo + fl) refl (z .0) (z .1) c
-      (reach-end M (Conflicting S (Reach M (Cycle M fl) lo)) li (σ at) (τ at) (σ (mark p)) (τ (mark p)) r (conflicting lo fl o)) in
+      (reach-end M (SomeConflictInto S (Reach M (Cycle M fl) lo)) li (σ at) (τ at) (σ (mark p)) (τ (mark p)) r (conflicting lo fl o)) in
       omega (arith, f .first (q .pair) (q .valid) .0, q .all)
 
   back-loop : Cycle M (p .back-loop) (σ 0) (τ 0)

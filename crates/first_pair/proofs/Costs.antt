@@ -10,22 +10,22 @@ use lib.Seq.{getD-set-same, getD-set-other}
 use Rattle.mealy.specs.Machine.{Machine, Total}
 use Rattle.mealy.specs.Product.{Edge}
 use Rattle.first_pair.specs.Reach.{Pairs, Reach, Into}
-use Rattle.first_pair.specs.Lowest.{Leads, none, letter, Lowest, there, lowest}
-use Rattle.first_pair.specs.Cost.{CostTable, Cost, LeastCosts, Seeds, CostOf, entry, endless}
+use Rattle.first_pair.specs.Lowest.{BytesLead, none, letter, Lowest, there, lowest}
+use Rattle.first_pair.specs.Cost.{CostTable, Cost, LeastCosts, Seeds, CostOf, entry, noCost}
 use Rattle.first_pair.proofs.Reaching.{neighbour-into, leads-reach}
 use Rattle.first_pair.proofs.Making.{reach-leads}
 
 -- ---- tables
 
-replicate-high : (n k : ℕ) → getD {A = ℕ} (replicate n endless) k 0 ≤ endless
+replicate-high : (n k : ℕ) → getD {A = ℕ} (replicate n noCost) k 0 ≤ noCost
 replicate-high zero k = omega arith
 replicate-high (suc n) zero = omega arith
 replicate-high (suc n) (suc k) = replicate-high n k
 
-pub table-endless : CostTable (replicate 256 endless)
+pub table-endless : CostTable (replicate 256 noCost)
 table-endless = record { size = refl; high = replicate-high 256 }
 
-pub table-set : {t : List ℕ} {a n : ℕ} → CostTable t → a < 256 → n ≤ endless → CostTable (set t a n)
+pub table-set : {t : List ℕ} {a n : ℕ} → CostTable t → a < 256 → n ≤ noCost → CostTable (set t a n)
 table-set {t} {a} {n} w l m =
     let e = w .size in
     record {
@@ -42,7 +42,7 @@ module _ (M : Machine) (total : Total M) where
   abbrev N : ℕ
   N = M .states
 
-  pub leads-below : {k u v x y : ℕ} {bytes : List ℕ} → Leads M k u v bytes x y → u < N → v < N → (x < N) × (y < N)
+  pub leads-below : {k u v x y : ℕ} {bytes : List ℕ} → BytesLead M k u v bytes x y → u < N → v < N → (x < N) × (y < N)
   leads-below none l m = (l, m)
   leads-below (letter e r) l m = leads-below r (total _ _ l (e .below₁)) (total _ _ m (e .below₂))
 
@@ -54,7 +54,7 @@ module _ (M : Machine) (total : Total M) where
         let w = reach-leads M (Seeds t (c .n)) (c .k) u v (c .reach) in
         let z = leads-below (w .leads) l₁ l₂ in
         let e = w .within .0 in
-        let s : entry t (w .x) (w .y) < endless = omega (arith, w .within .1) in
+        let s : entry t (w .x) (w .y) < noCost = omega (arith, w .within .1) in
         record {
           k = c .k;
           n = c .n;
@@ -67,7 +67,7 @@ module _ (M : Machine) (total : Total M) where
         let w = reach-leads M (A (c .n)) (c .k) u v (c .reach) in
         let z = leads-below (w .leads) l₁ l₂ in
         let e = a .at (w .x) (w .y) (z .0) (z .1) .least (c .n) (w .within) in
-        elim (decLt (entry t (w .x) (w .y)) endless) [
+        elim (decLt (entry t (w .x) (w .y)) noCost) [
           | yes s ↦
               omega (
                 arith,
@@ -132,7 +132,7 @@ lowest-same G to from on at g (lowest {k = k} {u = u} {v = v} {i = i} {j = j} e 
 -- letters and `base`.
 pub record Along (M : Machine) (step base n : ℕ) (A : ℕ → Pairs) (P : Pairs) (t : List ℕ) : Type 0 where
   pub least : LeastCosts (M .states) (Cost M step A) t
-  pub bound : (k : ℕ) → k ≤ n → step * k + base < endless
+  pub bound : (k : ℕ) → k ≤ n → step * k + base < noCost
   pub to : (k x y : ℕ) → k ≤ n → Cost M step A (step * k + base) x y → Reach M P k x y
   pub from : (k x y : ℕ) → Reach M P k x y → Cost M step A (step * k + base) x y
 
@@ -157,7 +157,7 @@ module _ (M : Machine) (total : Total M) {step base n : ℕ} {A : ℕ → Pairs}
   reach-cost : (k x y : ℕ) → k ≤ n → x < M .states → y < M .states → CostOf t step base k x y → Reach M P k x y
   reach-cost k x y l l₁ l₂ c =
       let b = w .bound k l in
-      let s : entry t x y < endless = omega arith in
+      let s : entry t x y < noCost = omega arith in
       w .to k x y l (rw c at (w .least .at x y l₁ l₂ .holds s))
 
   module _ (k u v i j : ℕ) (g : NoLower M step base n A (suc k) u v) where
@@ -179,7 +179,7 @@ module _ (M : Machine) (total : Total M) {step base n : ℕ} {A : ℕ → Pairs}
         let c = w .least .at _ _ l₁ l₂ in
         let high = c .least (step * k + base) (w .from k _ _ (h .within)) in
         let b = w .bound k (omega arith) in
-        let s : entry t (M .next u i) (M .next v j) < endless = omega arith in
+        let s : entry t (M .next u i) (M .next v j) < noCost = omega arith in
         let low = g .lower i j (entry t (M .next u i) (M .next v j)) e (c .holds s) in
         record { edge = e; within = omega (arith, mul-suc step k) }
 

@@ -13,7 +13,7 @@ use Rattle.mealy.specs.LoopedPair.{LoopedPair, letters, Valid}
 use Rattle.mealy.proofs.ComesBack.{letters-take, end-start}
 use Rattle.mealy.proofs.Edges.{equal-edge, equal-tail}
 use Rattle.mealy.proofs.Runs.{back→runs, forward→runs}
-use Rattle.first_pair.specs.Reach.{Reach, At, Cycle, Conflicting}
+use Rattle.first_pair.specs.Reach.{Reach, At, Cycle, SomeConflictInto}
 use Rattle.first_pair.proofs.Reaching.{edge-into, reach-end}
 use Rattle.first_pair.proofs.Making.{possible-valid}
 use Rattle.first_pair.proofs.Shortening.{twice}
@@ -104,7 +104,7 @@ module _ (S : Setting) (closed : Closed S) (bounded : Bounded S) where
       (q : LoopedPair) × Valid S q × (letters q ≤ 2 * n + 1)
   meetings-valid s t i j u v s′ t′ u′ v′ e d b f =
       let q = possible-valid S (b .x) (b .y) (b .c) (b .k) (f .m) (f .c) (b .c + b .k + 1 + f .m + f .c) refl (b .start₁) (b .start₂) (b .cycle)
-      (reach-end M (Conflicting S (Reach M (Cycle M (f .c)) (f .m))) (b .k) (b .x) (b .y) s t (b .after)
+      (reach-end M (SomeConflictInto S (Reach M (Cycle M (f .c)) (f .m))) (b .k) (b .x) (b .y) s t (b .after)
       (record {
         i = i;
         j = j;

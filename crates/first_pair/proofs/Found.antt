@@ -9,14 +9,14 @@ use Rattle.mealy.specs.Machine.{Machine, Total}
 use Rattle.mealy.specs.Setting.{Setting, Bounded}
 use Rattle.mealy.specs.LoopedPair.{LoopedPair, first, second, letterAt, mark, letters, Valid}
 use Rattle.mealy.specs.First.{Lexicographic, First}
-use Rattle.first_pair.specs.Reach.{Reach, At, Cycle, Into, ConflictInto, Conflicting}
+use Rattle.first_pair.specs.Reach.{Reach, At, Cycle, Into, ConflictInto, SomeConflictInto}
 use Rattle.first_pair.specs.Lowest.{LowestOf, Lowest, LowestPair}
 use Rattle.first_pair.specs.Found.{totalAt, LengthsBy, LettersBy}
-use Rattle.first_pair.specs.Cost.{Cost, Only, Looped, Tail, Marked, Head, LeastCosts, CostOf, entry, letter, inLetter, outLetter, endless, tailCost, headCost}
+use Rattle.first_pair.specs.Cost.{Cost, Only, Looped, Tail, Marked, Head, LeastCosts, CostOf, entry, letterCost, inCost, outCost, noCost, tailCost, headCost}
 use Rattle.first_pair.proofs.Reaching.{into-neighbour}
 use Rattle.first_pair.proofs.Lowest.{lowest-leads, lowest-within}
 use Rattle.first_pair.proofs.Making.{reach-leads}
-use Rattle.first_pair.proofs.FirstPairs.{lengths, valid-cycle, valid-reach, first-pair}
+use Rattle.first_pair.proofs.ByLengths.{lengths, valid-cycle, valid-reach, first-pair}
 use Rattle.first_pair.proofs.Costs.{Along, NoLower, no-lower, lowest-costs, cost-first, cost-none, leads-below}
 use Rattle.first_pair.proofs.LengthCosts.{head-order, distance-to, distance-from, tail-of, tail-to, head-of, head-to}
 
@@ -58,8 +58,8 @@ module _ (M : Machine) (total : Total M) (x y n : ℕ) (small : n < 1024) (d : L
 
 -- ---- lead-out and lead-in
 
-module _ (M : Machine) (lo fl : ℕ) (small : tailCost lo fl < endless) (t : List ℕ) (least : LeastCosts (M .states) (Tail M) t) where
-  pub tail-along : Along M outLetter (letter * fl) lo (Looped M) (Cycle M fl) t
+module _ (M : Machine) (lo fl : ℕ) (small : tailCost lo fl < noCost) (t : List ℕ) (least : LeastCosts (M .states) (Tail M) t) where
+  pub tail-along : Along M outCost (letterCost * fl) lo (Looped M) (Cycle M fl) t
   tail-along = record {
     least = least;
     bound = λ k l. omega arith;
@@ -67,8 +67,8 @@ module _ (M : Machine) (lo fl : ℕ) (small : tailCost lo fl < endless) (t : Lis
     from = λ k u v h. tail-of M k fl u v h;
   }
 
-module _ (S : Setting) (li lo fl : ℕ) (small : headCost li lo fl < endless) (t : List ℕ) (least : LeastCosts (S .M .states) (Head S) t) where
-  pub head-along : Along (S .M) inLetter (letter + tailCost lo fl) li (Marked S) (Conflicting S (Reach (S .M) (Cycle (S .M) fl) lo)) t
+module _ (S : Setting) (li lo fl : ℕ) (small : headCost li lo fl < noCost) (t : List ℕ) (least : LeastCosts (S .M .states) (Head S) t) where
+  pub head-along : Along (S .M) inCost (letterCost + tailCost lo fl) li (Marked S) (SomeConflictInto S (Reach (S .M) (Cycle (S .M) fl) lo)) t
   head-along = record {
     least = least;
     bound = λ k l. omega arith;
@@ -92,8 +92,8 @@ module _ (S : Setting) (bounded : Bounded S) (few : S .M .states ≤ 16) (loops 
     l₂ : q .t < M .states
     l₂ = bounded _ (c .start second)
 
-    back-most : entry loops (q .s) (q .t) ≤ letter * q .back-loop
-    back-most = back .at (q .s) (q .t) l₁ l₂ .least (letter * q .back-loop) (record { k = q .back-loop; all = refl; cycle = valid-cycle S q c })
+    back-most : entry loops (q .s) (q .t) ≤ letterCost * q .back-loop
+    back-most = back .at (q .s) (q .t) l₁ l₂ .least (letterCost * q .back-loop) (record { k = q .back-loop; all = refl; cycle = valid-cycle S q c })
 
     head-most : entry heads (q .s) (q .t) ≤ headCost (q .lead-in) (q .lead-out) (q .forward-loop)
     head-most =
@@ -119,7 +119,7 @@ module _ (S : Setting) (bounded : Bounded S) (few : S .M .states ≤ 16) (loops 
     -- with the same starts
     module _ (e₁ : p .s ≡ q .s) (e₂ : p .t ≡ q .t) where
       back-least : p .back-loop ≤ q .back-loop
-      back-least = let a : entry loops (p .s) (p .t) ≤ letter * q .back-loop = rw (e₁, e₂) back-most in omega (arith, w .back-is)
+      back-least = let a : entry loops (p .s) (p .t) ≤ letterCost * q .back-loop = rw (e₁, e₂) back-most in omega (arith, w .back-is)
 
       head-least : headCost (p .lead-in) (p .lead-out) (p .forward-loop) ≤ headCost (q .lead-in) (q .lead-out) (q .forward-loop)
       head-least =
@@ -179,45 +179,45 @@ module _ (S : Setting) (bounded : Bounded S) (total : Total (S .M)) (loops tails
   forward-small : fl < 1024
   forward-small = omega (arith, w .few)
 
-  tail-small : tailCost lo fl < endless
+  tail-small : tailCost lo fl < noCost
   tail-small = omega (arith, w .few)
 
-  head-small : headCost li lo fl < endless
+  head-small : headCost li lo fl < noCost
   head-small = omega (arith, w .few)
 
   -- the back loop is a shortest closed walk
   pub back-cycle : Cycle M bl (p .s) (p .t)
   back-cycle =
-      let l : entry loops (p .s) (p .t) < endless = omega (arith, w .back-is, back-small) in
+      let l : entry loops (p .s) (p .t) < noCost = omega (arith, w .back-is, back-small) in
       let c = back .at (p .s) (p .t) s-below t-below .holds l in
       let e : c .k ≡ bl = omega (arith, c .all, w .back-is) in
       rw e at (c .cycle)
 
   pub back-shortest : (m : ℕ) → Cycle M m (p .s) (p .t) → bl ≤ m
   back-shortest m c =
-      omega (arith, w .back-is, back .at (p .s) (p .t) s-below t-below .least (letter * m) (record { k = m; all = refl; cycle = c }))
+      omega (arith, w .back-is, back .at (p .s) (p .t) s-below t-below .least (letterCost * m) (record { k = m; all = refl; cycle = c }))
 
   -- lead-in, differing letter, lead-out and forward loop are possible
-  pub head-reach : Reach M (Conflicting S (Reach M (Cycle M fl) lo)) li (p .s) (p .t)
+  pub head-reach : Reach M (SomeConflictInto S (Reach M (Cycle M fl) lo)) li (p .s) (p .t)
   head-reach =
-      let l : entry heads (p .s) (p .t) < endless = omega (arith, w .head-is, head-small) in
+      let l : entry heads (p .s) (p .t) < noCost = omega (arith, w .head-is, head-small) in
       head-to S li lo fl (p .s) (p .t) head-small (rw (w .head-is) at (head .at (p .s) (p .t) s-below t-below .holds l))
 
   pub forward-letter : 0 < fl
   forward-letter =
-      let a = reach-leads M (Conflicting S (Reach M (Cycle M fl) lo)) li (p .s) (p .t) head-reach in
+      let a = reach-leads M (SomeConflictInto S (Reach M (Cycle M fl) lo)) li (p .s) (p .t) head-reach in
       let b = reach-leads M (Cycle M fl) lo _ _ (a .within .edge .into .within) in
       b .within .letter
 
   -- ---- where the lead-in ends
 
-  module _ (u v : ℕ) (l₁ : u < M .states) (l₂ : v < M .states) (c : CostOf heads inLetter (letter + tailCost lo fl) 0 u v) where
+  module _ (u v : ℕ) (l₁ : u < M .states) (l₂ : v < M .states) (c : CostOf heads inCost (letterCost + tailCost lo fl) 0 u v) where
     mark-to :
         (i j : ℕ) → ConflictInto S (λ a b. entry tails a b ≡ tailCost lo fl) u v i j → ConflictInto S (Reach M (Cycle M fl) lo) u v i j
     mark-to i j h =
         let e = h .into .edge in
         let d = tail .at _ _ (total _ _ l₁ (e .below₁)) (total _ _ l₂ (e .below₂)) in
-        let s : entry tails (M .next u i) (M .next v j) < endless = omega (arith, h .into .within, tail-small) in
+        let s : entry tails (M .next u i) (M .next v j) < noCost = omega (arith, h .into .within, tail-small) in
         record {
           conflict = h .conflict;
           into = record { edge = e; within = tail-to M lo fl _ _ tail-small (rw (h .into .within) at (d .holds s)) };
@@ -229,8 +229,8 @@ module _ (S : Setting) (bounded : Bounded S) (total : Total (S .M)) (loops tails
         let e = h .into .edge in
         let d = tail .at _ _ (total _ _ l₁ (e .below₁)) (total _ _ l₂ (e .below₂)) in
         let high = d .least (tailCost lo fl) (tail-of M lo fl _ _ (h .into .within)) in
-        let s : entry tails (M .next u i) (M .next v j) < endless = omega (arith, tail-small) in
-        let low = head .at u v l₁ l₂ .least (letter + entry tails (M .next u i) (M .next v j)) (cost-none (letter + entry tails (M .next u i) (M .next v j)) (record {
+        let s : entry tails (M .next u i) (M .next v j) < noCost = omega (arith, tail-small) in
+        let low = head .at u v l₁ l₂ .least (letterCost + entry tails (M .next u i) (M .next v j)) (cost-none (letterCost + entry tails (M .next u i) (M .next v j)) (record {
           n = entry tails (M .next u i) (M .next v j);
           all = refl;
           edge = record { i = i; j = j; edge = record { conflict = h .conflict; into = record { edge = e; within = d .holds s } } };
@@ -246,22 +246,22 @@ module _ (S : Setting) (bounded : Bounded S) (total : Total (S .M)) (loops tails
     pub mark-some : (i : ℕ) × (j : ℕ) × ConflictInto S (λ a b. entry tails a b ≡ tailCost lo fl) u v i j
     mark-some =
         let b = tail-small in
-        let s : entry heads u v < endless = omega (arith, c) in
-        let q : inLetter * 0 + (letter + tailCost lo fl) ≡ headCost 0 lo fl = refl in
+        let s : entry heads u v < noCost = omega (arith, c) in
+        let q : inCost * 0 + (letterCost + tailCost lo fl) ≡ headCost 0 lo fl = refl in
         let h = head-to S 0 lo fl u v (omega (arith, c)) (rw c at (head .at u v l₁ l₂ .holds s)) in
         (h .i, h .j, mark-from (h .i) (h .j) (h .edge))
 
   -- ---- where the lead-out ends
 
-  module _ (x y : ℕ) (l₁ : x < M .states) (l₂ : y < M .states) (c : CostOf tails outLetter (letter * fl) 0 x y) where
+  module _ (x y : ℕ) (l₁ : x < M .states) (l₂ : y < M .states) (c : CostOf tails outCost (letterCost * fl) 0 x y) where
     pub forward-cycle : Cycle M fl x y
     forward-cycle =
         let b = tail-small in
-        let s : entry tails x y < endless = omega (arith, c) in
+        let s : entry tails x y < noCost = omega (arith, c) in
         tail-to M 0 fl x y (omega (arith, b)) (rw c at (tail .at x y l₁ l₂ .holds s))
 
     pub forward-shortest : (m : ℕ) → Cycle M m x y → fl ≤ m
-    forward-shortest m z = omega (arith, c, tail .at x y l₁ l₂ .least (letter * m) (cost-none (letter * m) (record { k = m; all = refl; cycle = z })))
+    forward-shortest m z = omega (arith, c, tail .at x y l₁ l₂ .least (letterCost * m) (cost-none (letterCost * m) (record { k = m; all = refl; cycle = z })))
 
   -- ---- all five parts
 
@@ -269,7 +269,7 @@ module _ (S : Setting) (bounded : Bounded S) (total : Total (S .M)) (loops tails
     mark-below : (u < M .states) × (v < M .states)
     mark-below = leads-below M total (lowest-leads (z .before)) s-below t-below
 
-    mark-cost : CostOf heads inLetter (letter + tailCost lo fl) 0 u v
+    mark-cost : CostOf heads inCost (letterCost + tailCost lo fl) 0 u v
     mark-cost = lowest-within (z .before)
 
     after-below :

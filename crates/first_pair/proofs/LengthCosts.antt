@@ -4,17 +4,17 @@ use Prim.Native.Nat.{ℕ, _+_, _*_, _≤_, _<_}
 use native.Mathlib.Omega.{arith}
 use Rattle.mealy.specs.Machine.{Machine}
 use Rattle.mealy.specs.Setting.{Setting}
-use Rattle.first_pair.specs.Reach.{Pairs, Reach, At, Cycle, Conflicting}
-use Rattle.first_pair.specs.Cost.{Cost, Only, Looped, Tail, Marked, Head, letter, endless, tailCost, headCost}
+use Rattle.first_pair.specs.Reach.{Pairs, Reach, At, Cycle, SomeConflictInto}
+use Rattle.first_pair.specs.Cost.{Cost, Only, Looped, Tail, Marked, Head, letterCost, noCost, tailCost, headCost}
 use Rattle.first_pair.proofs.Reaching.{reach-map, leads-reach}
 use Rattle.first_pair.proofs.Making.{reach-leads}
 
 -- costs below `endless` are of one lead-out and one forward loop, and of one lead-in
-pub tail-unique : (lo fl lo′ fl′ : ℕ) → tailCost lo′ fl′ ≡ tailCost lo fl → tailCost lo fl < endless → (lo′ ≡ lo) × (fl′ ≡ fl)
+pub tail-unique : (lo fl lo′ fl′ : ℕ) → tailCost lo′ fl′ ≡ tailCost lo fl → tailCost lo fl < noCost → (lo′ ≡ lo) × (fl′ ≡ fl)
 tail-unique lo fl lo′ fl′ e l = let t : lo′ + fl′ ≡ lo + fl = omega arith in (omega arith, omega arith)
 
 pub head-unique :
-    (li lo fl li′ lo′ fl′ : ℕ) → headCost li′ lo′ fl′ ≡ headCost li lo fl → headCost li lo fl < endless →
+    (li lo fl li′ lo′ fl′ : ℕ) → headCost li′ lo′ fl′ ≡ headCost li lo fl → headCost li lo fl < noCost →
     (li′ ≡ li) × (lo′ ≡ lo) × (fl′ ≡ fl)
 head-unique li lo fl li′ lo′ fl′ e l =
     let t : li′ + lo′ + fl′ ≡ li + lo + fl = omega arith in
@@ -47,9 +47,9 @@ module _ (M : Machine) where
   tail-of lo fl u v h =
       record {
         k = lo;
-        n = letter * fl;
+        n = letterCost * fl;
         all = refl;
-        reach = reach-map M (Cycle M fl) (Looped M (letter * fl)) (λ a b z. record { k = fl; all = refl; cycle = z }) lo u v h;
+        reach = reach-map M (Cycle M fl) (Looped M (letterCost * fl)) (λ a b z. record { k = fl; all = refl; cycle = z }) lo u v h;
       }
 
   pub record TailLengths (m u v : ℕ) : Type 0 where
@@ -69,7 +69,7 @@ module _ (M : Machine) where
         reach = leads-reach (Cycle M (z .k)) (w .leads) (z .cycle);
       }
 
-  pub tail-to : (lo fl u v : ℕ) → tailCost lo fl < endless → Tail M (tailCost lo fl) u v → Reach M (Cycle M fl) lo u v
+  pub tail-to : (lo fl u v : ℕ) → tailCost lo fl < noCost → Tail M (tailCost lo fl) u v → Reach M (Cycle M fl) lo u v
   tail-to lo fl u v l c =
       let w = tail-lengths (tailCost lo fl) u v c in
       let e = tail-unique lo fl (w .lo) (w .fl) (w .all) l in
@@ -80,7 +80,7 @@ module _ (M : Machine) where
 module _ (S : Setting) where
   open Setting S using (M)
 
-  pub conflicting-map : (P Q : Pairs) → ((a b : ℕ) → P a b → Q a b) → (u v : ℕ) → Conflicting S P u v → Conflicting S Q u v
+  pub conflicting-map : (P Q : Pairs) → ((a b : ℕ) → P a b → Q a b) → (u v : ℕ) → SomeConflictInto S P u v → SomeConflictInto S Q u v
   conflicting-map P Q f u v c =
       let e = c .edge in
       record {
@@ -90,14 +90,14 @@ module _ (S : Setting) where
       }
 
   pub head-of :
-      (li lo fl u v : ℕ) → Reach M (Conflicting S (Reach M (Cycle M fl) lo)) li u v → Head S (headCost li lo fl) u v
+      (li lo fl u v : ℕ) → Reach M (SomeConflictInto S (Reach M (Cycle M fl) lo)) li u v → Head S (headCost li lo fl) u v
   head-of li lo fl u v h =
       record {
         k = li;
-        n = letter + tailCost lo fl;
+        n = letterCost + tailCost lo fl;
         all = refl;
         reach =
-            reach-map M (Conflicting S (Reach M (Cycle M fl) lo)) (Marked S (letter + tailCost lo fl))
+            reach-map M (SomeConflictInto S (Reach M (Cycle M fl) lo)) (Marked S (letterCost + tailCost lo fl))
             (λ a b z. record { n = tailCost lo fl; all = refl; edge = conflicting-map (Reach M (Cycle M fl) lo) (Tail M (tailCost lo fl)) (tail-of M lo fl) a b z })
             li u v h;
       }
@@ -107,7 +107,7 @@ module _ (S : Setting) where
     pub lo : ℕ
     pub fl : ℕ
     pub all : headCost li lo fl ≡ m
-    pub reach : Reach M (Conflicting S (Reach M (Cycle M fl) lo)) li u v
+    pub reach : Reach M (SomeConflictInto S (Reach M (Cycle M fl) lo)) li u v
 
   pub head-lengths : (m u v : ℕ) → Head S m u v → HeadLengths m u v
   head-lengths m u v c =
@@ -120,7 +120,7 @@ module _ (S : Setting) where
         lo = t .lo;
         fl = t .fl;
         all = omega (arith, c .all, d .all, t .all);
-        reach = leads-reach (Conflicting S (Reach M (Cycle M (t .fl)) (t .lo))) (w .leads) (record {
+        reach = leads-reach (SomeConflictInto S (Reach M (Cycle M (t .fl)) (t .lo))) (w .leads) (record {
           i = d .edge .i;
           j = d .edge .j;
           edge = record { conflict = e .conflict; into = record { edge = e .into .edge; within = t .reach } };
@@ -128,8 +128,8 @@ module _ (S : Setting) where
       }
 
   pub head-to :
-      (li lo fl u v : ℕ) → headCost li lo fl < endless → Head S (headCost li lo fl) u v →
-      Reach M (Conflicting S (Reach M (Cycle M fl) lo)) li u v
+      (li lo fl u v : ℕ) → headCost li lo fl < noCost → Head S (headCost li lo fl) u v →
+      Reach M (SomeConflictInto S (Reach M (Cycle M fl) lo)) li u v
   head-to li lo fl u v l c =
       let w = head-lengths (headCost li lo fl) u v c in
       let e = head-unique li lo fl (w .li) (w .lo) (w .fl) (w .all) l in

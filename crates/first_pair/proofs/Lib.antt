@@ -3,7 +3,7 @@ pub mod Reaching
 pub mod Lowest
 pub mod Parts
 pub mod LowestPairs
-pub mod FirstPairs
+pub mod ByLengths
 pub mod Making
 pub mod Writing
 pub mod Shortening

@@ -4,11 +4,11 @@ use Prim.Native.Nat.{ℕ}
 use Rattle.mealy.specs.Machine.{Machine}
 use Rattle.mealy.specs.First.{Lexicographic}
 use Rattle.first_pair.specs.Reach.{Pairs, Reach}
-use Rattle.first_pair.specs.Lowest.{Leads, none, letter, Lowest, there, lowest}
+use Rattle.first_pair.specs.Lowest.{BytesLead, none, letter, Lowest, there, lowest}
 use Rattle.first_pair.proofs.Reaching.{leads-reach}
 
 module _ {M : Machine} {L : ℕ → Pairs} where
-  pub lowest-leads : {k u v x y : ℕ} {bytes : List ℕ} → Lowest M L k u v bytes x y → Leads M k u v bytes x y
+  pub lowest-leads : {k u v x y : ℕ} {bytes : List ℕ} → Lowest M L k u v bytes x y → BytesLead M k u v bytes x y
   lowest-leads (there h) = none
   lowest-leads (lowest e r) = letter (e .holds .edge) (lowest-leads r)
 
@@ -19,7 +19,7 @@ module _ {M : Machine} {L : ℕ → Pairs} where
 -- no later than any other bytes that lead into the set
 pub lowest-least :
     {M : Machine} (P : Pairs) {k u v x y x′ y′ : ℕ} {bytes bytes′ : List ℕ} → Lowest M (Reach M P) k u v bytes x y →
-    Leads M k u v bytes′ x′ y′ → P x′ y′ → Lexicographic bytes bytes′
+    BytesLead M k u v bytes′ x′ y′ → P x′ y′ → Lexicographic bytes bytes′
 lowest-least P (there h) none g = tt
 lowest-least P (lowest {i = i} {j = j} e r) (letter {i = i′} {j = j′} f q) g =
     let l = e .lowest i′ j′ (record { edge = f; within = leads-reach P q g }) in

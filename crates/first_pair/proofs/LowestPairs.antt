@@ -8,18 +8,18 @@ use Rattle.mealy.specs.Setting.{Setting}
 use Rattle.mealy.specs.LoopedPair.{LoopedPair, first, second, letterAt, mark, unlooped, letters}
 use Rattle.mealy.specs.First.{Lexicographic}
 use Rattle.first_pair.specs.Reach.{Pairs, Reach, Cycle, ConflictInto}
-use Rattle.first_pair.specs.Lowest.{Leads, Lowest, bytesFrom, LowestPair}
+use Rattle.first_pair.specs.Lowest.{BytesLead, Lowest, bytesFrom, LowestPair}
 use Rattle.first_pair.proofs.Reaching.{leads-reach, leads-same}
 use Rattle.first_pair.proofs.Lowest.{lowest-leads, lowest-least}
 use Rattle.first_pair.proofs.Parts.{lexicographic-join, PartsWith, PartsOf}
 
 module _ {M : Machine} where
-  pub leads-cycle : {n u v : ℕ} {bytes : List ℕ} → 0 < n → Leads M n u v bytes u v → Cycle M n u v
+  pub leads-cycle : {n u v : ℕ} {bytes : List ℕ} → 0 < n → BytesLead M n u v bytes u v → Cycle M n u v
   leads-cycle l w = record { letter = l; closed = leads-reach _ w (refl, refl) }
 
   -- the same bytes lead to the pair where the lowest do
   same-end :
-      {L : ℕ → Pairs} {k u v x y x′ y′ : ℕ} {bytes bytes′ : List ℕ} → Lowest M L k u v bytes x y → Leads M k u v bytes′ x′ y′ →
+      {L : ℕ → Pairs} {k u v x y x′ y′ : ℕ} {bytes bytes′ : List ℕ} → Lowest M L k u v bytes x y → BytesLead M k u v bytes′ x′ y′ →
       bytes ≡ bytes′ → (x′ ≡ x) × (y′ ≡ y)
   same-end a b e = leads-same (rw (← e) at b) (lowest-leads a)
 

@@ -6,8 +6,8 @@ use Rattle.mealy.specs.Machine.{Machine}
 use Rattle.mealy.specs.Setting.{Setting}
 use Rattle.mealy.specs.LoopedPair.{LoopedPair, letters, Valid}
 use Rattle.mealy.proofs.PairWalks.{WalkOf, PairWalks, pairOfWalks, walks→valid}
-use Rattle.first_pair.specs.Reach.{Pairs, Reach, At, Cycle, Conflicting}
-use Rattle.first_pair.specs.Lowest.{Leads, none, letter}
+use Rattle.first_pair.specs.Reach.{Pairs, Reach, At, Cycle, SomeConflictInto}
+use Rattle.first_pair.specs.Lowest.{BytesLead, none, letter}
 use Rattle.first_pair.proofs.Reaching.{reach→runs, neighbour-into}
 
 -- ---- walks with their bytes
@@ -17,7 +17,7 @@ pub record LeadsInto (M : Machine) (P : Pairs) (k u v : ℕ) : Type 0 where
   pub bytes : List ℕ
   pub x : ℕ
   pub y : ℕ
-  pub leads : Leads M k u v bytes x y
+  pub leads : BytesLead M k u v bytes x y
   pub within : P x y
 
 pub reach-leads : (M : Machine) (P : Pairs) (k u v : ℕ) → Reach M P k u v → LeadsInto M P k u v
@@ -26,12 +26,6 @@ reach-leads M P (suc k) u v h =
     let e = neighbour-into h in
     let r = reach-leads M P k _ _ (e .within) in
     record { bytes = h .i ∷ h .j ∷ r .bytes; x = r .x; y = r .y; leads = letter (e .edge) (r .leads); within = r .within }
-
--- to one pair
-pub closed-leads : (M : Machine) (k u v x y : ℕ) → Reach M (At x y) k u v → (bytes : List ℕ) × Leads M k u v bytes x y
-closed-leads M k u v x y h =
-    let w = reach-leads M (At x y) k u v h in
-    (w .bytes, rw (w .within .0, w .within .1) at (w .leads))
 
 -- ---- valid pairs
 
@@ -77,8 +71,6 @@ closed-walk M k u v h =
 pub record ValidOf (S : Setting) (s t n : ℕ) : Type 0 where
   pub pair : LoopedPair
   pub valid : Valid S pair
-  pub s-is : pair .s ≡ s
-  pub t-is : pair .t ≡ t
   pub all : letters pair ≡ n
 
 module _ (S : Setting) where
@@ -86,9 +78,9 @@ module _ (S : Setting) where
 
   pub possible-valid :
       (s t bl li lo fl n : ℕ) → bl + li + 1 + lo + fl ≡ n → S .Start s → S .Start t → Cycle M bl s t →
-      Reach M (Conflicting S (Reach M (Cycle M fl) lo)) li s t → ValidOf S s t n
+      Reach M (SomeConflictInto S (Reach M (Cycle M fl) lo)) li s t → ValidOf S s t n
   possible-valid s t bl li lo fl n sum st₁ st₂ c r =
-      let w = reach-walk M (Conflicting S (Reach M (Cycle M fl) lo)) li s t r in
+      let w = reach-walk M (SomeConflictInto S (Reach M (Cycle M fl) lo)) li s t r in
       let e = w .within .edge in
       let z = reach-walk M (Cycle M fl) lo _ _ (e .into .within) in
       let walks : PairWalks S s t bl li lo fl = record {
@@ -113,4 +105,4 @@ module _ (S : Setting) where
         };
         forward = closed-walk M fl (z .x) (z .y) (z .within .closed);
       } in
-      record { pair = pairOfWalks S walks; valid = walks→valid S walks; s-is = refl; t-is = refl; all = sum }
+      record { pair = pairOfWalks S walks; valid = walks→valid S walks; all = sum }

@@ -13,7 +13,7 @@ use Rattle.mealy.specs.Walk.{Part}
 use Rattle.mealy.specs.First.{Lexicographic}
 use Rattle.mealy.proofs.Walks.{walk-nil, walk-cons}
 use Rattle.mealy.proofs.Places.{Edges}
-use Rattle.first_pair.specs.Lowest.{Leads, none, letter, bytesAt, bytesFrom}
+use Rattle.first_pair.specs.Lowest.{BytesLead, none, letter, bytesAt, bytesFrom}
 
 -- ---- the bytes of the letters
 
@@ -39,7 +39,7 @@ bytes-taken p l = bytes-part (p .bytes) (letters p) 0 (2 * letters p) 0 refl ref
 
 pub leads-join :
     {M : Machine} (p : LoopedPair) (m n k place mid : ℕ) {u v x y x′ y′ : ℕ} → m + n ≡ k → place + m ≡ mid →
-    Leads M m u v (bytesFrom p place m) x y → Leads M n x y (bytesFrom p mid n) x′ y′ → Leads M k u v (bytesFrom p place k) x′ y′
+    BytesLead M m u v (bytesFrom p place m) x y → BytesLead M n x y (bytesFrom p mid n) x′ y′ → BytesLead M k u v (bytesFrom p place k) x′ y′
 leads-join p zero n k place mid e f none b =
     let g : n ≡ k = omega arith in
     let h : mid ≡ place = omega arith in
@@ -62,7 +62,7 @@ lexicographic-join p q (suc m) n (suc k) place mid e f a b =
 -- ---- walks as runs
 
 pub leads-walk :
-    {M : Machine} (p : LoopedPair) (n place : ℕ) {u v x y : ℕ} → Leads M n u v (bytesFrom p place n) x y →
+    {M : Machine} (p : LoopedPair) (n place : ℕ) {u v x y : ℕ} → BytesLead M n u v (bytesFrom p place n) x y →
     Part M p place n u v x y
 leads-walk p zero place none = walk-nil
 leads-walk p (suc n) place (letter e r) = walk-cons e (leads-walk p n (suc place) r)
@@ -76,16 +76,16 @@ pub record PartsWith (S : Setting) (p : LoopedPair) (s t bl li lo fl : ℕ) : Ty
   pub v : ℕ
   pub x : ℕ
   pub y : ℕ
-  pub back : Leads (S .M) bl s t (bytesFrom p 0 bl) s t
-  pub before : Leads (S .M) li s t (bytesFrom p bl li) u v
+  pub back : BytesLead (S .M) bl s t (bytesFrom p 0 bl) s t
+  pub before : BytesLead (S .M) li s t (bytesFrom p bl li) u v
   pub edge :
       Edge (S .M) u v (letterAt p first (bl + li)) (letterAt p second (bl + li))
       (S .M .next u (letterAt p first (bl + li))) (S .M .next v (letterAt p second (bl + li)))
   pub conflict : S .Conflict (letterAt p first (bl + li)) (letterAt p second (bl + li))
   pub after :
-      Leads (S .M) lo (S .M .next u (letterAt p first (bl + li))) (S .M .next v (letterAt p second (bl + li)))
+      BytesLead (S .M) lo (S .M .next u (letterAt p first (bl + li))) (S .M .next v (letterAt p second (bl + li)))
       (bytesFrom p (suc (bl + li)) lo) x y
-  pub forward : Leads (S .M) fl x y (bytesFrom p (bl + li + 1 + lo) fl) x y
+  pub forward : BytesLead (S .M) fl x y (bytesFrom p (bl + li + 1 + lo) fl) x y
 
 abbrev pub PartsOf : Setting → LoopedPair → Type 0
 PartsOf S p = PartsWith S p (p .s) (p .t) (p .back-loop) (p .lead-in) (p .lead-out) (p .forward-loop)
@@ -114,10 +114,10 @@ parts-valid S p held a b c d w = record {
     loop : Part (S .M) p 0 (p .back-loop) (p .s) (p .t) (p .s) (p .t)
     loop = leads-walk p (p .back-loop) 0 (w .back)
 
-    to-mark : Leads (S .M) (mark p) (p .s) (p .t) (bytesFrom p 0 (mark p)) (w .u) (w .v)
+    to-mark : BytesLead (S .M) (mark p) (p .s) (p .t) (bytesFrom p 0 (mark p)) (w .u) (w .v)
     to-mark = leads-join p (p .back-loop) (p .lead-in) (mark p) 0 (p .back-loop) refl (omega arith) (w .back) (w .before)
 
-    to-loop : Leads (S .M) (unlooped p) (p .s) (p .t) (bytesFrom p 0 (unlooped p)) (w .x) (w .y)
+    to-loop : BytesLead (S .M) (unlooped p) (p .s) (p .t) (bytesFrom p 0 (unlooped p)) (w .x) (w .y)
     to-loop = leads-join p (mark p) (suc (p .lead-out)) (unlooped p) 0 (mark p) (omega arith) (omega arith) to-mark (letter (w .edge) (w .after))
 
     some : Part (S .M) p 0 (unlooped p) (p .s) (p .t) (w .x) (w .y)
@@ -151,7 +151,7 @@ valid-edges S p w k l = edge-at (S .M) p (letters p) k 0 k _ _ l (omega arith) (
 -- from place to place
 pub edges-leads :
     (M : Machine) (p : LoopedPair) (σ : Run → ℕ → ℕ) (L n place to : ℕ) → Edges M p σ L → place + n ≡ to → to ≤ L →
-    Leads M n (σ first place) (σ second place) (bytesFrom p place n) (σ first to) (σ second to)
+    BytesLead M n (σ first place) (σ second place) (bytesFrom p place n) (σ first to) (σ second to)
 edges-leads M p σ L zero place to h e l = let f : place ≡ to = omega arith in rw f none
 edges-leads M p σ L (suc n) place to h e l =
     let d = h place (omega arith) in
@@ -177,7 +177,7 @@ valid-parts S p w = record {
 
     go :
         (n place to : ℕ) → place + n ≡ to → to ≤ letters p →
-        Leads (S .M) n (σ first place) (σ second place) (bytesFrom p place n) (σ first to) (σ second to)
+        BytesLead (S .M) n (σ first place) (σ second place) (bytesFrom p place n) (σ first to) (σ second to)
     go n place to = edges-leads (S .M) p σ (letters p) n place to (valid-edges S p w)
 
     d :

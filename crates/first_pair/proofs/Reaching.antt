@@ -10,7 +10,7 @@ use Rattle.mealy.specs.Window.{EqualOutputs}
 use Rattle.mealy.specs.Product.{Edge, forward, Neighbour}
 use Rattle.mealy.proofs.Edges.{equal-nil, equal-cons, equal-edge, equal-tail, neighbour-map}
 use Rattle.first_pair.specs.Reach.{Pairs, Reach, At, Into}
-use Rattle.first_pair.specs.Lowest.{Leads, none, letter}
+use Rattle.first_pair.specs.Lowest.{BytesLead, none, letter}
 
 -- ---- in terms of runs
 
@@ -82,15 +82,15 @@ reach-end M P k u v x y h p = reach-append M P k 0 k u v x y (omega arith) h p
 -- ---- walks with their bytes
 
 module _ {M : Machine} where
-  pub leads-reach : (P : Pairs) {k u v x y : ℕ} {bytes : List ℕ} → Leads M k u v bytes x y → P x y → Reach M P k u v
+  pub leads-reach : (P : Pairs) {k u v x y : ℕ} {bytes : List ℕ} → BytesLead M k u v bytes x y → P x y → Reach M P k u v
   leads-reach P none h = h
   leads-reach P (letter e r) h = record { s = _; t = _; i = _; j = _; step = e; within = leads-reach P r h }
 
-  pub leads-length : {k u v x y : ℕ} {bytes : List ℕ} → Leads M k u v bytes x y → length bytes ≡ 2 * k
+  pub leads-length : {k u v x y : ℕ} {bytes : List ℕ} → BytesLead M k u v bytes x y → length bytes ≡ 2 * k
   leads-length none = refl
   leads-length (letter e r) = omega (arith, leads-length r)
 
   -- the same bytes lead to the same pair
-  pub leads-same : {k u v x y x′ y′ : ℕ} {bytes : List ℕ} → Leads M k u v bytes x y → Leads M k u v bytes x′ y′ → (x ≡ x′) × (y ≡ y′)
+  pub leads-same : {k u v x y x′ y′ : ℕ} {bytes : List ℕ} → BytesLead M k u v bytes x y → BytesLead M k u v bytes x′ y′ → (x ≡ x′) × (y ≡ y′)
   leads-same none none = (refl, refl)
   leads-same (letter e r) (letter f q) = leads-same r q

@@ -8,7 +8,7 @@ use mathlib.Core.List.{List}
 use lib.ListN.{length, getD}
 use Rattle.mealy.specs.Machine.{Machine}
 use Rattle.mealy.specs.Setting.{Setting}
-use Rattle.first_pair.specs.Reach.{Pairs, Reach, Cycle, Conflicting}
+use Rattle.first_pair.specs.Reach.{Pairs, Reach, Cycle, SomeConflictInto}
 
 -- r is the least number with P, or `cap` where no number below that has it
 pub record Capped (P : ℕ → Type 0) (cap r : ℕ) : Type 0 where
@@ -28,48 +28,48 @@ abbrev pub Only : Pairs → ℕ → Pairs
 Only P n u v = (n ≡ 0) × P u v
 
 -- what a letter costs; a letter of the lead-in; a letter of the lead-out
-abbrev pub letter : ℕ
-letter = 1048576
+abbrev pub letterCost : ℕ
+letterCost = 1048576
 
-abbrev pub inLetter : ℕ
-inLetter = 1049600
+abbrev pub inCost : ℕ
+inCost = 1049600
 
-abbrev pub outLetter : ℕ
-outLetter = 1048577
+abbrev pub outCost : ℕ
+outCost = 1048577
 
 -- a number of letters that no length reaches; and no cost: that of so many letters
-abbrev pub limit : ℕ
-limit = 1024
+abbrev pub tooLong : ℕ
+tooLong = 1024
 
-abbrev pub endless : ℕ
-endless = 1073741824
+abbrev pub noCost : ℕ
+noCost = 1073741824
 
 -- a closed walk at (u, v)
 pub record Looped (M : Machine) (m u v : ℕ) : Type 0 where
   pub k : ℕ
-  pub all : letter * k ≡ m
+  pub all : letterCost * k ≡ m
   pub cycle : Cycle M k u v
 
 -- from (u, v), some letters and then a closed walk: lead-out and forward loop
 abbrev pub Tail : Machine → ℕ → Pairs
-Tail M = Cost M outLetter (Looped M)
+Tail M = Cost M outCost (Looped M)
 
 -- a conflicting letter and then such a tail
 pub record Marked (S : Setting) (m u v : ℕ) : Type 0 where
   pub n : ℕ
-  pub all : letter + n ≡ m
-  pub edge : Conflicting S (Tail (S .M) n) u v
+  pub all : letterCost + n ≡ m
+  pub edge : SomeConflictInto S (Tail (S .M) n) u v
 
 -- some letters and then those: lead-in, differing letter, lead-out and forward loop
 abbrev pub Head : Setting → ℕ → Pairs
-Head S = Cost (S .M) inLetter (Marked S)
+Head S = Cost (S .M) inCost (Marked S)
 
 -- the cost of a lead-out and a forward loop with these lengths, and of a lead-in and the differing letter before them
 abbrev pub tailCost : ℕ → ℕ → ℕ
-tailCost lo fl = outLetter * lo + letter * fl
+tailCost lo fl = outCost * lo + letterCost * fl
 
 abbrev pub headCost : ℕ → ℕ → ℕ → ℕ
-headCost li lo fl = inLetter * li + (letter + tailCost lo fl)
+headCost li lo fl = inCost * li + (letterCost + tailCost lo fl)
 
 -- ---- tables of costs, the pair (u, v) at place 16 u + v
 
@@ -79,16 +79,16 @@ entry t u v = getD t (16 * u + v) 0
 -- a table of costs
 pub record CostTable (t : List ℕ) : Type 0 where
   pub size : length t ≡ 256
-  pub high : (k : ℕ) → getD t k 0 ≤ endless
+  pub high : (k : ℕ) → getD t k 0 ≤ noCost
 
 -- the table has for each pair of states below n its least cost, or `endless` where none is below that
 pub record LeastCosts (n : ℕ) (A : ℕ → Pairs) (t : List ℕ) : Type 0 where
   pub size : length t ≡ 256
-  pub at : (u v : ℕ) → u < n → v < n → Capped (λ m. A m u v) endless (entry t u v)
+  pub at : (u v : ℕ) → u < n → v < n → Capped (λ m. A m u v) noCost (entry t u v)
 
 -- the costs in a table, as costs at which a walk may end
 abbrev pub Seeds : List ℕ → ℕ → Pairs
-Seeds t n u v = (entry t u v ≡ n) × (n < endless)
+Seeds t n u v = (entry t u v ≡ n) × (n < noCost)
 
 -- the pairs whose cost is that of k letters and `base`
 abbrev pub CostOf : List ℕ → ℕ → ℕ → ℕ → Pairs

@@ -7,14 +7,14 @@ use Rattle.mealy.specs.Machine.{Machine}
 use Rattle.mealy.specs.Setting.{Setting}
 use Rattle.mealy.specs.Product.{Edge}
 use Rattle.mealy.specs.LoopedPair.{LoopedPair, first, second, letterAt, mark, unlooped}
-use Rattle.first_pair.specs.Reach.{Pairs, Reach, At, Cycle, Into, ConflictInto, Conflicting}
+use Rattle.first_pair.specs.Reach.{Pairs, Reach, At, Cycle, Into, ConflictInto, SomeConflictInto}
 
 -- the k letters in the bytes, two bytes each, lead from (u, v) to (x, y)
-pub data Leads (M : Machine) : ℕ → ℕ → ℕ → List ℕ → ℕ → ℕ → Type 0 where
-  none : {u v : ℕ} → Leads M zero u v [] u v
+pub data BytesLead (M : Machine) : ℕ → ℕ → ℕ → List ℕ → ℕ → ℕ → Type 0 where
+  none : {u v : ℕ} → BytesLead M zero u v [] u v
   letter :
       {k u v i j x y : ℕ} {bytes : List ℕ} → Edge M u v i j (M .next u i) (M .next v j) →
-      Leads M k (M .next u i) (M .next v j) bytes x y → Leads M (suc k) u v (i ∷ j ∷ bytes) x y
+      BytesLead M k (M .next u i) (M .next v j) bytes x y → BytesLead M (suc k) u v (i ∷ j ∷ bytes) x y
 
 -- of the pairs of letters in A, the lowest, comparing i, then j
 pub record LowestOf (A : ℕ → ℕ → Type 0) (i j : ℕ) : Type 0 where
@@ -43,7 +43,7 @@ bytesFrom p = bytesAt (p .bytes)
 pub record LowestPair (S : Setting) (p : LoopedPair) (u v x y : ℕ) : Type 0 where
   pub back : Lowest (S .M) (Reach (S .M) (At (p .s) (p .t))) (p .back-loop) (p .s) (p .t) (bytesFrom p 0 (p .back-loop)) (p .s) (p .t)
   pub before :
-      Lowest (S .M) (Reach (S .M) (Conflicting S (Reach (S .M) (Cycle (S .M) (p .forward-loop)) (p .lead-out)))) (p .lead-in) (p .s) (p .t)
+      Lowest (S .M) (Reach (S .M) (SomeConflictInto S (Reach (S .M) (Cycle (S .M) (p .forward-loop)) (p .lead-out)))) (p .lead-in) (p .s) (p .t)
       (bytesFrom p (p .back-loop) (p .lead-in)) u v
   pub conflict :
       LowestOf (ConflictInto S (Reach (S .M) (Cycle (S .M) (p .forward-loop)) (p .lead-out)) u v)

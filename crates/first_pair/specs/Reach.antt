@@ -40,7 +40,7 @@ pub record ConflictInto (S : Setting) (P : Pairs) (u v i j : ℕ) : Type 0 where
   pub into : Into (S .M) P u v i j
 
 -- a conflicting edge leads from (u, v) into P
-pub record Conflicting (S : Setting) (P : Pairs) (u v : ℕ) : Type 0 where
+pub record SomeConflictInto (S : Setting) (P : Pairs) (u v : ℕ) : Type 0 where
   pub i : ℕ
   pub j : ℕ
   pub edge : ConflictInto S P u v i j

@@ -1,10 +1,10 @@
 // No public calls: the numbers that costs are made of (specs/Cost.antt).
 
 // A number of letters that no length reaches.
-pub const LIMIT: usize = 1024;
+pub const TOO_LONG: usize = 1024;
 
 // What a letter costs.
-pub const LETTER: usize = 1048576;
+pub const LETTER_COST: usize = 1048576;
 
 // No cost: that of so many letters.
-pub const ENDLESS: usize = 1073741824;
+pub const NO_COST: usize = 1073741824;

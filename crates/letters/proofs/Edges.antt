@@ -15,7 +15,7 @@ use Rattle.setting.proofs.Numbers.{holds-all}
 use Rattle.first_pair.specs.Reach.{Into}
 use Rattle.first_pair.specs.Lowest.{LowestOf}
 use Rattle.first_pair.specs.Cost.{entry}
-use Rattle.letters.specs.Walk.{EdgeTo, SomeEdgeTo, ArraysOf, CostOf, SomeInto}
+use Rattle.letters.specs.Walk.{EdgeTo, SomeEdgeTo, CoderArrays, CostOf, SomeInto}
 
 -- what is left of an edge when all but its cost is known
 pub cost-judged :
@@ -33,7 +33,7 @@ cost-judged t want x y l m same within p q =
 pub table-is : {xs ys : List ℕ} → xs ≡ ys → (s i : ℕ) → i < 16 → getD xs (16 * s + i) 0 ≡ tableAt ys s i
 table-is {xs} {ys} e s i l = rw e (table-place ys s i l)
 
-module _ {c : Coder} {next output : List ℕ} {inputs : ℕ} (arrays : ArraysOf c next output inputs) (allowed t : List ℕ) (u v want i j : ℕ) where
+module _ {c : Coder} {next output : List ℕ} {inputs : ℕ} (arrays : CoderArrays c next output inputs) (allowed t : List ℕ) (u v want i j : ℕ) where
   -- the entries of letters are those of the machine
   entries :
       i < 16 → j < 16 →
@@ -72,7 +72,7 @@ AllLetters all = (length all ≡ 16) × ((i : ℕ) → i < 16 → getD all i 0 �
 all-has : (all : List ℕ) → AllLetters all → (i j : ℕ) → i < 16 → j < 16 → Has (getD all i 0) j
 all-has all a i j l m = rw (a .1 i l) (holds-all 16 (omega arith) .has j m)
 
-module _ {c : Coder} {next output : List ℕ} {inputs : ℕ} (arrays : ArraysOf c next output inputs) (all : List ℕ) (a : AllLetters all)
+module _ {c : Coder} {next output : List ℕ} {inputs : ℕ} (arrays : CoderArrays c next output inputs) (all : List ℕ) (a : AllLetters all)
     (t : List ℕ) (step base k u v : ℕ) where
   any-edge :
       (i j : ℕ) → Into (machineOfCoder c) (CostOf t step base k) u v i j → EdgeTo next output inputs all t u v (step * k + base) i j

@@ -10,7 +10,7 @@ use Rattle.coder.specs.declared.inner.tables.Coder.{Coder}
 use Rattle.coder.proofs.Tables.{next-high}
 use Rattle.first_pair.specs.Lowest.{LowestOf, bytesAt}
 use Rattle.first_pair.proofs.Writing.{LowestSoFar, so-far-none, so-far-write, so-far-all}
-use Rattle.letters.specs.Walk.{EdgeTo, LowestAsked, AfterLetters, ArraysOf, CostOf, PairOf, SomeInto, WriteFrom, StaysOutside, Wrote}
+use Rattle.letters.specs.Walk.{EdgeTo, LowestAsked, AfterLetters, CoderArrays, CostOf, StatePair, SomeInto, WriteFrom, StaysOutside, Wrote}
 use Rattle.letters.proofs.Edges.{AllLetters, table-is, some-edge, lowest-into}
 
 -- ---- the bytes
@@ -49,20 +49,20 @@ kept-more {place} {k} {before} {bytes} i j w =
 -- ---- the walk
 
 -- k letters are written, and `rest` are to come. They lead from `from` to the pair a, from which the walk goes on.
-pub record Walked (c : Coder) (t : List ℕ) (step base from n place k rest a : ℕ) (bytes : List ℕ) : Type 0 where
+pub record WalkSoFar (c : Coder) (t : List ℕ) (step base from n place k rest a : ℕ) (bytes : List ℕ) : Type 0 where
   pub so-far : LowestSoFar (machineOfCoder c) (CostOf t step base) n (from / 16) (from % 16) (bytesAt bytes place k) rest (a / 16) (a % 16)
-  pub pair : PairOf c a
+  pub pair : StatePair c a
   pub last : rest ≡ 0 → CostOf t step base 0 (a / 16) (a % 16)
   pub onward : (m : ℕ) → rest ≡ suc m → SomeInto c (CostOf t step base m) (a / 16) (a % 16)
 
 pub walked-none :
     {c : Coder} {t : List ℕ} {step base from n place : ℕ} {bytes : List ℕ} (rest : ℕ) → rest ≡ n → WriteFrom c t step base from n →
-    Walked c t step base from n place 0 rest from bytes
+    WalkSoFar c t step base from n place 0 rest from bytes
 walked-none rest e w = rw e (record { so-far = so-far-none; pair = w .pair; last = w .none; onward = w .first })
 
 -- the pair to which letters lead, as the machine says
 pub after-pair :
-    {c : Coder} {next output : List ℕ} {inputs : ℕ} → ArraysOf c next output inputs → (a x r : ℕ) → x / 16 < 16 → AfterLetters next a x r →
+    {c : Coder} {next output : List ℕ} {inputs : ℕ} → CoderArrays c next output inputs → (a x r : ℕ) → x / 16 < 16 → AfterLetters next a x r →
     (r / 16 ≡ tableAt (c .next) (a / 16) (x / 16)) × (r % 16 ≡ tableAt (c .next) (a % 16) (x % 16))
 after-pair {c} arrays a x r l e =
     let s = arrays .sound in
@@ -71,8 +71,8 @@ after-pair {c} arrays a x r l e =
     let low : tableAt (c .next) (a % 16) (x % 16) < 16 = omega (arith, s .next-state (a % 16) (x % 16), s .states-high) in
     (omega (arith, e), omega (arith, e))
 
-module _ {c : Coder} {next output : List ℕ} {inputs : ℕ} (arrays : ArraysOf c next output inputs) (all : List ℕ) (allowed : AllLetters all)
-    {t : List ℕ} {step base from n place k rest a : ℕ} {bytes : List ℕ} (w : Walked c t step base from n place k rest a bytes) (m : ℕ)
+module _ {c : Coder} {next output : List ℕ} {inputs : ℕ} (arrays : CoderArrays c next output inputs) (all : List ℕ) (allowed : AllLetters all)
+    {t : List ℕ} {step base from n place k rest a : ℕ} {bytes : List ℕ} (w : WalkSoFar c t step base from n place k rest a bytes) (m : ℕ)
     (e : rest ≡ suc m) where
   -- what finding the next letters asks
   pub walked-asks : LowestAsked next output inputs all t a (step * m + base)
@@ -89,7 +89,7 @@ module _ {c : Coder} {next output : List ℕ} {inputs : ℕ} (arrays : ArraysOf 
   pub walked-more :
       {r : ℕ} (x : ℕ) → 2 * (place + k) + 1 < length bytes → rest ≤ n → WriteFrom c t step base from n →
       LowestOf (EdgeTo next output inputs all t (a / 16) (a % 16) (step * m + base)) (x / 16) (x % 16) → AfterLetters next a x r →
-      Walked c t step base from n place (k + 1) m r (withLetters bytes (place + k) (x / 16) (x % 16))
+      WalkSoFar c t step base from n place (k + 1) m r (withLetters bytes (place + k) (x / 16) (x % 16))
   walked-more {r} x room few walk o f =
       let s = arrays .sound in
       let at = place + k in
@@ -114,7 +114,7 @@ module _ {c : Coder} {next output : List ℕ} {inputs : ℕ} (arrays : ArraysOf 
 -- with the last it is done
 pub walked-all :
     {c : Coder} {t : List ℕ} {step base from n place k rest a : ℕ} {before after : List ℕ} → c .states ≤ 16 → k ≡ n → rest ≡ 0 →
-    Walked c t step base from n place k rest a after → StaysOutside place k before after → Wrote c t step base from n place before after a
+    WalkSoFar c t step base from n place k rest a after → StaysOutside place k before after → Wrote c t step base from n place before after a
 walked-all high e z w kept =
     let q = w .pair in
     record {

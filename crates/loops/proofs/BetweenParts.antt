@@ -11,13 +11,13 @@ use Rattle.values.specs.Pair.{pairOf}
 use Rattle.values.specs.declared.LoopedPair.{LoopedPair}
 use Rattle.first_pair.specs.Reach.{Pairs}
 use Rattle.first_pair.specs.Lowest.{bytesAt}
-use Rattle.first_pair.specs.Cost.{CostOf, letter, inLetter, outLetter, tailCost}
+use Rattle.first_pair.specs.Cost.{CostOf, letterCost, inCost, outCost, tailCost}
 use Rattle.first_pair.specs.Found.{LengthsBy}
 use Rattle.first_pair.proofs.Lowest.{lowest-within}
 use Rattle.first_pair.proofs.Writing.{bytes-same}
 use Rattle.first_pair.proofs.Costs.{Along, cost-on}
 use Rattle.first_pair.proofs.Found.{tail-along, head-along, mark-some}
-use Rattle.letters.specs.Walk.{PairOf, WriteFrom, WriteAsked, Wrote}
+use Rattle.letters.specs.Walk.{StatePair, WriteFrom, WriteAsked, Wrote}
 use Rattle.loops.specs.Parts.{settingIn, SomeMark, MarkAsked, MarkWritten, BetweenFrom, BetweenWritten}
 use Rattle.loops.proofs.Keeping.{kept-then}
 use Rattle.loops.proofs.ClosedParts.{sound-total, own-arrays, some-into}
@@ -25,7 +25,7 @@ use Rattle.loops.proofs.ClosedParts.{sound-total, own-arrays, some-into
 -- along a table, from a pair with the cost of all letters
 along-walk :
     {c : Coder} {step base n : ℕ} {A : ℕ → Pairs} {P : Pairs} {t : List ℕ} → Sound c → Along (machineOfCoder c) step base n A P t →
-    (from : ℕ) → PairOf c from → CostOf t step base n (from / 16) (from % 16) → WriteFrom c t step base from n
+    (from : ℕ) → StatePair c from → CostOf t step base n (from / 16) (from % 16) → WriteFrom c t step base from n
 along-walk {c} s w from pair cost =
     let M = machineOfCoder c in
     record {
@@ -70,7 +70,7 @@ module _ {c : Coder} {starts : ℕ} {conflicts loops tails heads : List ℕ} {p 
   start-parts : (start / 16 ≡ p .s) × (start % 16 ≡ p .t)
   start-parts = parts (p .s) (p .t) (omega (arith, start-below .1, f .sound .states-high))
 
-  pub head-walk : WriteFrom c heads inLetter (letter + tailCost lo fl) start li
+  pub head-walk : WriteFrom c heads inCost (letterCost + tailCost lo fl) start li
   head-walk =
       let q = start-parts in
       along-walk (f .sound) (head-along S li lo fl (omega (arith, few)) heads (f .tables .heads-are starts)) start
@@ -79,7 +79,7 @@ module _ {c : Coder} {starts : ℕ} {conflicts loops tails heads : List ℕ} {p 
   -- the lead-in
   pub head-asks :
       {b₀ : List ℕ} → 1026 ≤ length b₀ →
-      WriteAsked (c .next) (c .output) (c .inputs) heads inLetter (letter + tailCost lo fl) start li bl b₀
+      WriteAsked (c .next) (c .output) (c .inputs) heads inCost (letterCost + tailCost lo fl) start li bl b₀
   head-asks room =
       let l = few in
       record {
@@ -93,7 +93,7 @@ module _ {c : Coder} {starts : ℕ} {conflicts loops tails heads : List ℕ} {p 
         room = omega arith;
       }
 
-  module _ {b₀ b₁ : List ℕ} {u : ℕ} (h : Wrote c heads inLetter (letter + tailCost lo fl) start li bl b₀ b₁ u) where
+  module _ {b₀ b₁ : List ℕ} {u : ℕ} (h : Wrote c heads inCost (letterCost + tailCost lo fl) start li bl b₀ b₁ u) where
     some-mark : SomeMark c conflicts tails u (tailCost lo fl)
     some-mark =
         let m =
@@ -114,14 +114,14 @@ module _ {c : Coder} {starts : ℕ} {conflicts loops tails heads : List ℕ} {p 
         }
 
     module _ {b₂ : List ℕ} {v : ℕ} (m : MarkWritten c conflicts tails u (tailCost lo fl) (bl + li) b₁ b₂ v) where
-      pub tail-walk : WriteFrom c tails outLetter (letter * fl) v lo
+      pub tail-walk : WriteFrom c tails outCost (letterCost * fl) v lo
       tail-walk =
           along-walk (f .sound) (tail-along (machineOfCoder c) lo fl (omega (arith, few)) tails (f .tables .tails-are)) v (m .pair)
           (rw (m .first, m .second) (m .lowest starts .holds .into .within))
 
       -- the lead-out
       pub tail-asks :
-          1026 ≤ length b₀ → WriteAsked (c .next) (c .output) (c .inputs) tails outLetter (letter * fl) v lo (bl + li + 1) b₂
+          1026 ≤ length b₀ → WriteAsked (c .next) (c .output) (c .inputs) tails outCost (letterCost * fl) v lo (bl + li + 1) b₂
       tail-asks room =
           let l = few in
           record {
@@ -136,7 +136,7 @@ module _ {c : Coder} {starts : ℕ} {conflicts loops tails heads : List ℕ} {p 
           }
 
       pub between-written :
-          {b₃ : List ℕ} {r : ℕ} → Wrote c tails outLetter (letter * fl) v lo (bl + li + 1) b₂ b₃ r →
+          {b₃ : List ℕ} {r : ℕ} → Wrote c tails outCost (letterCost * fl) v lo (bl + li + 1) b₂ b₃ r →
           BetweenWritten c starts conflicts tails heads p b₀ b₃ r
       between-written {b₃} {r} t =
           let q = start-parts in

@@ -10,17 +10,17 @@ use Rattle.mealy.specs.Machine.{Machine, Total}
 use Rattle.coder.specs.Table.{machineOfCoder, Sound}
 use Rattle.coder.specs.declared.inner.tables.Coder.{Coder}
 use Rattle.first_pair.specs.Reach.{Pairs, At, Into}
-use Rattle.first_pair.specs.Cost.{Cost, Only, LeastCosts, entry, endless}
+use Rattle.first_pair.specs.Cost.{Cost, Only, LeastCosts, entry, noCost}
 use Rattle.first_pair.proofs.Costs.{least-seeds, cost-on}
 use Rattle.first_pair.proofs.Found.{closed-along, closed-lowest, closed-first}
-use Rattle.costs.specs.Settle.{SettleDone}
-use Rattle.letters.specs.Walk.{ArraysOf, SomeInto, WriteFrom, WriteAsked, WriteDone}
+use Rattle.costs.specs.Lowering.{LoweringDone}
+use Rattle.letters.specs.Walk.{CoderArrays, SomeInto, WriteFrom, WriteAsked, WriteDone}
 use Rattle.loops.specs.Parts.{OnlyAt, ClosedAsked, ClosedWritten}
 
 -- ---- the cost 0 at one pair
 
 pub only-at :
-    (t : List ℕ) (a : ℕ) → a < 256 → length t ≡ 256 → ((k : ℕ) → k < 256 → getD t k 0 ≡ endless) → OnlyAt a (set t a 0)
+    (t : List ℕ) (a : ℕ) → a < 256 → length t ≡ 256 → ((k : ℕ) → k < 256 → getD t k 0 ≡ noCost) → OnlyAt a (set t a 0)
 only-at t a l e h n few = record {
   size = length-set t a 0 ∙ e;
   at = λ u v l₁ l₂. elim (ℕ-discrete (16 * u + v) a) [
@@ -28,7 +28,7 @@ only-at t a l e h n few = record {
         let z : entry (set t a 0) u v ≡ 0 = rw q (getD-set-same t a 0 0 (omega arith)) in
         record { high = omega arith; holds = λ s. (z, (omega arith, omega arith)); least = λ m s. omega arith }
     | no q ↦
-        let z : entry (set t a 0) u v ≡ endless = getD-set-other t a (16 * u + v) 0 0 q ∙ h (16 * u + v) (omega arith) in
+        let z : entry (set t a 0) u v ≡ noCost = getD-set-other t a (16 * u + v) 0 0 q ∙ h (16 * u + v) (omega arith) in
         record { high = omega arith; holds = λ s. absurd (omega arith); least = λ m s. absurd (q (omega arith)) }
   ];
 }
@@ -38,7 +38,7 @@ only-at t a l e h n few = record {
 pub sound-total : {c : Coder} → Sound c → Total (machineOfCoder c)
 sound-total s u i l m = s .next-state u i
 
-pub own-arrays : {c : Coder} → Sound c → ArraysOf c (c .next) (c .output) (c .inputs)
+pub own-arrays : {c : Coder} → Sound c → CoderArrays c (c .next) (c .output) (c .inputs)
 own-arrays s = record { sound = s; next-is = refl; output-is = refl; inputs-is = refl }
 
 pub some-into : {c : Coder} {P : Pairs} {u v : ℕ} → ((i : ℕ) × (j : ℕ) × Into (machineOfCoder c) P u v i j) → SomeInto c P u v
@@ -47,7 +47,7 @@ some-into h = record { i = h .0; j = h .1; into = h .2 }
 -- ---- the letters
 
 module _ {c : Coder} {words : List ℕ} {a n place : ℕ} {before : List ℕ} (w : ClosedAsked c words a n place before) {t d : List ℕ}
-    (only : OnlyAt a t) (settled : SettleDone words (c .states) 1 t d) where
+    (only : OnlyAt a t) (settled : LoweringDone words (c .states) 1 t d) where
   abbrev M : Machine
   M = machineOfCoder c
 

@@ -9,9 +9,9 @@ use Rattle.mealy.specs.LoopedPair as mealy
 use Rattle.coder.specs.declared.inner.tables.Coder.{Coder}
 use Rattle.values.specs.Pair.{pairOf, loopedPair}
 use Rattle.first_pair.specs.Reach.{Pairs}
-use Rattle.first_pair.specs.Cost.{limit, LeastCosts, entry, letter, endless, headCost}
+use Rattle.first_pair.specs.Cost.{tooLong, LeastCosts, entry, letterCost, noCost, headCost}
 use Rattle.first_pair.specs.Found.{LengthsBy}
-use Rattle.first_pair.proofs.FirstPairs.{valid-cycle, valid-reach}
+use Rattle.first_pair.proofs.ByLengths.{valid-cycle, valid-reach}
 use Rattle.first_pair.proofs.LengthCosts.{head-of, head-lengths}
 use Rattle.costs.specs.Starts.{totalOf, StartPair, FirstStart}
 use Rattle.loops.specs.Parts.{settingIn, LengthsFrom, LengthsFound}
@@ -24,36 +24,36 @@ pub record CostsOf (loop head : ℕ) : Type 0 where
   pub li : ℕ
   pub lo : ℕ
   pub fl : ℕ
-  pub back-is : letter * bl ≡ loop
+  pub back-is : letterCost * bl ≡ loop
   pub head-is : headCost li lo fl ≡ head
   pub few : bl + li + 1 + lo + fl ≤ 513
 
 module _ {loop head : ℕ} (w : CostsOf loop head) where
   open CostsOf w using (bl, li, lo, fl, back-is, head-is, few)
 
-  pub read-back : loop / letter ≡ bl
+  pub read-back : loop / letterCost ≡ bl
   read-back = omega (arith, back-is)
 
-  rest-is : head ≡ letter * (li + 1 + lo + fl) + (1024 * li + lo)
+  rest-is : head ≡ letterCost * (li + 1 + lo + fl) + (1024 * li + lo)
   rest-is = omega (arith, head-is)
 
-  pub read-all : head / letter ≡ li + 1 + lo + fl
+  pub read-all : head / letterCost ≡ li + 1 + lo + fl
   read-all = omega (arith, rest-is, few)
 
-  rest : head % letter ≡ 1024 * li + lo
+  rest : head % letterCost ≡ 1024 * li + lo
   rest = omega (arith, rest-is, few)
 
-  pub read-in : head % letter / 1024 ≡ li
+  pub read-in : head % letterCost / 1024 ≡ li
   read-in = let r = rest in omega (arith, few)
 
   pub read-out : head % 1024 ≡ lo
   read-out = omega (arith, rest-is, few)
 
   -- what the number of letters of the forward loop is read off by
-  pub read-forward : head / letter - 1 - head % letter / 1024 - head % 1024 ≡ fl
+  pub read-forward : head / letterCost - 1 - head % letterCost / 1024 - head % 1024 ≡ fl
   read-forward = omega (arith, read-all, read-in, read-out)
 
-  total-is : (loop + head) / letter ≡ bl + li + 1 + lo + fl
+  total-is : (loop + head) / letterCost ≡ bl + li + 1 + lo + fl
   total-is = omega (arith, rest-is, back-is, few)
 
 -- ---- the costs of the pair that is chosen
@@ -75,10 +75,10 @@ module _ {c : Coder} {starts : ℕ} {conflicts loops heads : List ℕ} (f : Leng
       record { below₁ = rw d (a .0); below₂ = rw r (b .0); start₁ = rw d (a .1); start₂ = rw r (b .1) }
 
   -- the costs of the starts of a valid pair are at most those of its lengths
-  back-most : entry loops (q .s) (q .t) ≤ letter * q .back-loop
+  back-most : entry loops (q .s) (q .t) ≤ letterCost * q .back-loop
   back-most =
       let v = f .some .valid in
-      f .loops-are .at (q .s) (q .t) (v .start mealy.first .0) (v .start mealy.second .0) .least (letter * q .back-loop)
+      f .loops-are .at (q .s) (q .t) (v .start mealy.first .0) (v .start mealy.second .0) .least (letterCost * q .back-loop)
       (record { k = q .back-loop; all = refl; cycle = valid-cycle S q v })
 
   head-most : entry heads (q .s) (q .t) ≤ headCost (q .lead-in) (q .lead-out) (q .forward-loop)
@@ -92,7 +92,7 @@ module _ {c : Coder} {starts : ℕ} {conflicts loops heads : List ℕ} (f : Leng
   total-most = let a = back-most in let b = head-most in let n = f .some .few in omega arith
 
   -- a is the first pair of start states with the fewest letters, where one has few enough
-  module _ {a : ℕ} (first : (b : ℕ) → StartPair (c .states) starts b → totalOf loops heads b < limit →
+  module _ {a : ℕ} (first : (b : ℕ) → StartPair (c .states) starts b → totalOf loops heads b < tooLong →
       FirstStart (c .states) starts loops heads a) where
     is-first : FirstStart (c .states) starts loops heads a
     is-first =
@@ -116,7 +116,7 @@ module _ {c : Coder} {starts : ℕ} {conflicts loops heads : List ℕ} (f : Leng
     place : 16 * (a / 16) + a % 16 ≡ a
     place = omega arith
 
-    cost-at : (A : ℕ → Pairs) (t : List ℕ) → LeastCosts (c .states) A t → getD t a 0 < endless → A (getD t a 0) (a / 16) (a % 16)
+    cost-at : (A : ℕ → Pairs) (t : List ℕ) → LeastCosts (c .states) A t → getD t a 0 < noCost → A (getD t a 0) (a / 16) (a % 16)
     cost-at A t w l =
         let b = is-first .start in
         rw place at (w .at (a / 16) (a % 16) (b .below₁) (b .below₂) .holds (rw place l))
@@ -156,8 +156,8 @@ module _ {c : Coder} {starts : ℕ} {conflicts loops heads : List ℕ} (f : Leng
     -- starts and lengths as they are read off
     pub lengths-found :
         LengthsFound c starts conflicts loops heads
-        (loopedPair (a / 16) (a % 16) (getD loops a 0 / letter) (getD heads a 0 % letter / 1024) (getD heads a 0 % 1024)
-        (getD heads a 0 / letter - 1 - getD heads a 0 % letter / 1024 - getD heads a 0 % 1024))
+        (loopedPair (a / 16) (a % 16) (getD loops a 0 / letterCost) (getD heads a 0 % letterCost / 1024) (getD heads a 0 % 1024)
+        (getD heads a 0 / letterCost - 1 - getD heads a 0 % letterCost / 1024 - getD heads a 0 % 1024))
     lengths-found =
         rw (read-forward costs-of, read-back costs-of, read-in costs-of, read-out costs-of)
         (record { lengths = lengths-by; few = costs-of .few })

@@ -13,14 +13,14 @@ use Rattle.coder.specs.declared.inner.tables.Coder.{Coder}
 use Rattle.values.specs.Pair.{pairOf}
 use Rattle.values.specs.declared.LoopedPair.{LoopedPair}
 use Rattle.first_pair.specs.Lowest.{bytesAt}
-use Rattle.first_pair.specs.Cost.{CostOf, letter, outLetter}
+use Rattle.first_pair.specs.Cost.{CostOf, letterCost, outCost}
 use Rattle.first_pair.specs.Successors.{SuccessorsOf}
 use Rattle.first_pair.specs.Found.{LengthsBy}
 use Rattle.first_pair.proofs.Writing.{bytes-same}
 use Rattle.first_pair.proofs.Found.{back-cycle, back-shortest, forward-cycle, forward-shortest, found-first}
-use Rattle.letters.specs.Walk.{PairOf, StaysOutside}
+use Rattle.letters.specs.Walk.{StatePair, StaysOutside}
 use Rattle.loops.specs.Pair.{FoundPair}
-use Rattle.loops.specs.Parts.{settingIn, TablesOf, ClosedAsked, ClosedWritten, BetweenFrom, BetweenWritten, LettersWritten}
+use Rattle.loops.specs.Parts.{settingIn, CostTablesOf, ClosedAsked, ClosedWritten, BetweenFrom, BetweenWritten, LettersWritten}
 use Rattle.loops.proofs.Keeping.{kept-then}
 
 -- the bytes past those written are as they were
@@ -47,7 +47,7 @@ module _ {c : Coder} {starts : ℕ} {conflicts loops tails heads : List ℕ} {p 
     w : LengthsBy S loops heads (pairOf p bytes)
     w = from .found .lengths bytes
 
-  abbrev t : TablesOf c conflicts loops tails heads
+  abbrev t : CostTablesOf c conflicts loops tails heads
   t = from .tables
 
   -- ---- what the loops ask
@@ -74,7 +74,7 @@ module _ {c : Coder} {starts : ℕ} {conflicts loops tails heads : List ℕ} {p 
         }
 
     pub forward-asked :
-        (r : ℕ) → PairOf c r → CostOf tails outLetter (letter * p .«forward_loop») 0 (r / 16) (r % 16) →
+        (r : ℕ) → StatePair c r → CostOf tails outCost (letterCost * p .«forward_loop») 0 (r / 16) (r % 16) →
         ClosedAsked c words r (p .«forward_loop») (p .«back_loop» + p .«lead_in» + 1 + p .«lead_out») before
     forward-asked r l z =
         let f = from .found .few in

@@ -1,4 +1,4 @@
--- Laws that other crates cite.
+-- The laws of the tables, the lengths and the letters of the first pair.
 pub mod MakingTables
 pub mod CostLengths
 pub mod Keeping

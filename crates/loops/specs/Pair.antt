@@ -11,7 +11,10 @@ use Rattle.coder.specs.declared.inner.tables.Coder.{Coder}
 use Rattle.values.specs.Pair.{pairOf}
 use Rattle.values.specs.declared.LoopedPair.{LoopedPair}
 
--- the bytes that the letters of any pair take: two for each of 256 + 1 + 256 letters
+-- the most letters of a first pair, 256 + 1 + 256, and the bytes that they take, two for each
+abbrev pub mostLetters : ℕ
+mostLetters = 513
+
 abbrev pub wanted : ℕ
 wanted = 1026
 
@@ -19,7 +22,7 @@ wanted = 1026
 pub record SomeValid (S : Setting) : Type 0 where
   pub pair : mealy.LoopedPair
   pub valid : mealy.Valid S pair
-  pub few : mealy.letters pair ≤ 513
+  pub few : mealy.letters pair ≤ mostLetters
 
 pub record FindAsked (c : Coder) (starts : ℕ) (conflicts before : List ℕ) : Type 0 where
   pub sound : Sound c

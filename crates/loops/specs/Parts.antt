@@ -11,11 +11,11 @@ use Rattle.values.specs.Pair.{pairOf}
 use Rattle.values.specs.declared.LoopedPair.{LoopedPair}
 use Rattle.first_pair.specs.Reach.{Reach, At, Cycle, ConflictInto}
 use Rattle.first_pair.specs.Lowest.{LowestOf, Lowest, bytesAt}
-use Rattle.first_pair.specs.Cost.{CostTable, Only, Looped, Tail, Head, LeastCosts, CostOf, entry, letter, inLetter, outLetter, tailCost}
+use Rattle.first_pair.specs.Cost.{CostTable, Only, Looped, Tail, Head, LeastCosts, CostOf, entry, letterCost, inCost, outCost, tailCost, tooLong}
 use Rattle.first_pair.specs.Successors.{SuccessorsOf}
 use Rattle.first_pair.specs.Found.{LengthsBy, LettersBy}
-use Rattle.letters.specs.Walk.{PairOf, StaysOutside}
-use Rattle.loops.specs.Pair.{SomeValid}
+use Rattle.letters.specs.Walk.{StatePair, StaysOutside}
+use Rattle.loops.specs.Pair.{mostLetters, wanted, SomeValid}
 
 -- the setting of a coder's tables and words
 abbrev pub settingIn : Coder → ℕ → List ℕ → Setting
@@ -24,7 +24,7 @@ settingIn c starts conflicts = worded (machineOfCoder c) starts conflicts
 -- ---- the tables
 
 -- closed walks, what follows the differing letter, and all that follows the back loop, whatever the start states
-pub record TablesOf (c : Coder) (conflicts loops tails heads : List ℕ) : Type 0 where
+pub record CostTablesOf (c : Coder) (conflicts loops tails heads : List ℕ) : Type 0 where
   pub loops-table : CostTable loops
   pub heads-table : CostTable heads
   pub loops-are : LeastCosts (c .states) (Looped (machineOfCoder c)) loops
@@ -55,7 +55,7 @@ pub record LengthsAsked (states starts : ℕ) (loops heads : List ℕ) : Type 0 
 -- Starts and lengths of the first pair, whatever its letters; no more letters than fit.
 pub record LengthsFound (c : Coder) (starts : ℕ) (conflicts loops heads : List ℕ) (r : LoopedPair) : Type 0 where
   pub lengths : (bytes : List ℕ) → LengthsBy (settingIn c starts conflicts) loops heads (pairOf r bytes)
-  pub few : r .«back_loop» + r .«lead_in» + 1 + r .«lead_out» + r .«forward_loop» ≤ 513
+  pub few : r .«back_loop» + r .«lead_in» + 1 + r .«lead_out» + r .«forward_loop» ≤ mostLetters
 
 abbrev pub LengthsDone : ℕ → ℕ → List ℕ → List ℕ → LoopedPair → Type 0
 LengthsDone states starts loops heads r =
@@ -68,11 +68,11 @@ LengthsDone states starts loops heads r =
 pub record ClosedAsked (c : Coder) (words : List ℕ) (a n place : ℕ) (before : List ℕ) : Type 0 where
   pub sound : Sound c
   pub successors : SuccessorsOf (machineOfCoder c) words
-  pub pair : PairOf c a
+  pub pair : StatePair c a
   pub closed : Cycle (machineOfCoder c) n (a / 16) (a % 16)
   pub shortest : (m : ℕ) → Cycle (machineOfCoder c) m (a / 16) (a % 16) → n ≤ m
-  pub letters-high : n < 1024
-  pub place-high : place ≤ 1024
+  pub letters-high : n < tooLong
+  pub place-high : place ≤ tooLong
   pub room : 2 * (place + n) ≤ length before
 
 -- the lowest letters of such a walk stand from `place` on
@@ -96,9 +96,9 @@ pub record SomeMark (c : Coder) (conflicts tails : List ℕ) (a want : ℕ) : Ty
 
 pub record MarkAsked (c : Coder) (conflicts tails : List ℕ) (a want place : ℕ) (before : List ℕ) : Type 0 where
   pub sound : Sound c
-  pub pair : PairOf c a
+  pub pair : StatePair c a
   pub some : SomeMark c conflicts tails a want
-  pub place-high : place ≤ 1024
+  pub place-high : place ≤ tooLong
   pub room : 2 * (place + 1) ≤ length before
 
 -- the lowest of them stand at `place`, and lead to the pair r
@@ -109,7 +109,7 @@ pub record MarkWritten (c : Coder) (conflicts tails : List ℕ) (a want place : 
       (getD after (2 * place + 0) 0) (getD after (2 * place + 1) 0)
   pub first : r / 16 ≡ machineOfCoder c .next (a / 16) (getD after (2 * place + 0) 0)
   pub second : r % 16 ≡ machineOfCoder c .next (a % 16) (getD after (2 * place + 1) 0)
-  pub pair : PairOf c r
+  pub pair : StatePair c r
   pub kept : StaysOutside place 1 before after
 
 -- ---- the letters between the loops
@@ -117,14 +117,14 @@ pub record MarkWritten (c : Coder) (conflicts tails : List ℕ) (a want place : 
 -- what they are written from: the tables, and starts and lengths found by them
 pub record BetweenFrom (c : Coder) (starts : ℕ) (conflicts loops tails heads : List ℕ) (p : LoopedPair) : Type 0 where
   pub sound : Sound c
-  pub tables : TablesOf c conflicts loops tails heads
+  pub tables : CostTablesOf c conflicts loops tails heads
   pub found : LengthsFound c starts conflicts loops heads p
 
 pub record BetweenAsked (c : Coder) (conflicts tails heads : List ℕ) (p : LoopedPair) (before : List ℕ) : Type 0 where
   pub starts : ℕ
   pub loops : List ℕ
   pub from : BetweenFrom c starts conflicts loops tails heads p
-  pub room : 1026 ≤ length before
+  pub room : wanted ≤ length before
 
 -- lead-in, differing letter and lead-out stand after the back loop's place, each with the lowest letters by the tables; they lead to the
 -- pair r
@@ -132,17 +132,17 @@ pub record BetweenWritten (c : Coder) (starts : ℕ) (conflicts tails heads : Li
   pub u : ℕ
   pub v : ℕ
   pub lead-in :
-      Lowest (machineOfCoder c) (CostOf heads inLetter (letter + tailCost (p .«lead_out») (p .«forward_loop»))) (p .«lead_in») (p .s) (p .t)
+      Lowest (machineOfCoder c) (CostOf heads inCost (letterCost + tailCost (p .«lead_out») (p .«forward_loop»))) (p .«lead_in») (p .s) (p .t)
       (bytesAt after (p .«back_loop») (p .«lead_in»)) u v
   pub mark :
       LowestOf (ConflictInto (settingIn c starts conflicts) (λ x y. entry tails x y ≡ tailCost (p .«lead_out») (p .«forward_loop»)) u v)
       (getD after (2 * (p .«back_loop» + p .«lead_in») + 0) 0) (getD after (2 * (p .«back_loop» + p .«lead_in») + 1) 0)
   pub lead-out :
-      Lowest (machineOfCoder c) (CostOf tails outLetter (letter * p .«forward_loop»)) (p .«lead_out»)
+      Lowest (machineOfCoder c) (CostOf tails outCost (letterCost * p .«forward_loop»)) (p .«lead_out»)
       (machineOfCoder c .next u (getD after (2 * (p .«back_loop» + p .«lead_in») + 0) 0))
       (machineOfCoder c .next v (getD after (2 * (p .«back_loop» + p .«lead_in») + 1) 0))
       (bytesAt after (suc (p .«back_loop» + p .«lead_in»)) (p .«lead_out»)) (r / 16) (r % 16)
-  pub pair : PairOf c r
+  pub pair : StatePair c r
   pub inside : r < 256
   pub kept : StaysOutside (p .«back_loop») (p .«lead_in» + 1 + p .«lead_out») before after
 

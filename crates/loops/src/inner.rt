@@ -3,7 +3,7 @@ pub mod tables; // tables.rt: the tables of costs, and the starts and lengths of
 pub mod parts; // parts.rt: its letters, part by part
 pub mod find; // find.rt: the pair
 
-// What a letter of the lead-in costs, and one of the lead-out; a letter of neither costs `first_pair::inner::LETTER`.
-pub const IN_LETTER: usize = 1049600;
+// What a letter of the lead-in costs, and one of the lead-out; a letter of neither costs `first_pair::inner::LETTER_COST`.
+pub const IN_COST: usize = 1049600;
 
-pub const OUT_LETTER: usize = 1048577;
+pub const OUT_COST: usize = 1048577;

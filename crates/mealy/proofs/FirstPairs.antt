@@ -2,12 +2,12 @@
 use mathlib.Core.Path.{_≡_, refl, sym}
 use mathlib.Core.Logic.{_⊎_, inl, inr}
 use mathlib.Core.List.{List, [], _∷_, _++_}
-use Prim.Native.Nat.{ℕ}
+use Prim.Native.Nat.{ℕ, _<_}
 use native.Mathlib.Omega.{arith}
 use native.Mathlib.Decide.{decLe, ℕ-discrete}
 use lib.ListN.{length}
 use Rattle.mealy.specs.Setting.{Setting}
-use Rattle.mealy.specs.LoopedPair.{LoopedPair}
+use Rattle.mealy.specs.LoopedPair.{LoopedPair, letters}
 use Rattle.mealy.specs.First.{Lexicographic, key, First}
 
 pub lexicographic-refl : (xs : List ℕ) → Lexicographic xs xs
@@ -54,3 +54,33 @@ lexicographic-append (x ∷ xs) (y ∷ ys) xs′ ys′ n p q =
 
 pub first-unique : (S : Setting) (p q : LoopedPair) → First S p → First S q → key p ≡ key q
 first-unique S p q a b = lexicographic-antisym (key p) (key q) (a .first q (b .valid)) (b .first p (a .valid))
+
+-- ---- what decides, one thing after the other
+
+module _ (p q : LoopedPair) where
+  pub fewer-letters : letters p < letters q → Lexicographic (key p) (key q)
+  fewer-letters l = (omega arith, λ e. absurd (omega arith))
+
+  module _ (all : letters p ≡ letters q) where
+    pub lower-s : p .s < q .s → Lexicographic (key p) (key q)
+    lower-s l = (omega arith, λ _. (omega arith, λ e. absurd (omega arith)))
+
+    module _ (same₁ : p .s ≡ q .s) where
+      pub lower-t : p .t < q .t → Lexicographic (key p) (key q)
+      lower-t l = (omega arith, λ _. (omega arith, λ _. (omega arith, λ e. absurd (omega arith))))
+
+      module _ (same₂ : p .t ≡ q .t) where
+        pub shorter-back-loop : p .back-loop < q .back-loop → Lexicographic (key p) (key q)
+        shorter-back-loop l =
+            (omega arith, λ _. (omega arith, λ _. (omega arith, λ _. (omega arith, λ e. absurd (omega arith)))))
+
+        module _ (same₃ : p .back-loop ≡ q .back-loop) where
+          pub shorter-lead-in : p .lead-in < q .lead-in → Lexicographic (key p) (key q)
+          shorter-lead-in l =
+              (omega arith, λ _. (omega arith, λ _. (omega arith, λ _. (omega arith, λ _. (omega arith, λ e. absurd (omega arith))))))
+
+          pub shorter-lead-out : p .lead-in ≡ q .lead-in → p .lead-out < q .lead-out → Lexicographic (key p) (key q)
+          shorter-lead-out same₄ l = (
+            omega arith,
+            λ _. (omega arith, λ _. (omega arith, λ _. (omega arith, λ _. (omega arith, λ _. (omega arith, λ e. absurd (omega arith)))))),
+          )

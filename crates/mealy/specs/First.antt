@@ -12,8 +12,8 @@ Lexicographic [] ys = Unit {0}
 Lexicographic (x ∷ xs) [] = ⊥
 Lexicographic (x ∷ xs) (y ∷ ys) = (x ≤ y) × (x ≡ y → Lexicographic xs ys)
 
--- What pairs are compared by, one number after the other (2/13, second and third sentences): all letters; then s, t, the lengths of back
--- loop, lead-in, lead-out and forward loop; then the bytes of the letters as they lie in the buffer.
+-- What pairs are compared by, one number after the other (2/13, second and third sentences). The bytes are those of the letters, as they lie
+-- in the buffer.
 abbrev pub key : LoopedPair → List ℕ
 key p =
     letters p ∷ p .s ∷ p .t ∷ p .back-loop ∷ p .lead-in ∷ p .lead-out ∷ p .forward-loop ∷ take (2 * letters p) (p .bytes)

@@ -6,6 +6,7 @@ pub mod Window
 pub mod Order
 pub mod Answer
 pub mod Index
+pub mod Sum
 pub mod Product
 pub mod LoopedPair
 pub mod First

@@ -5,8 +5,8 @@ ghost use Rattle.first_pair.specs.Cost.{CostTable, Capped};
 ghost use Rattle.costs.specs.Marked.{OnLetters, OnConflict, EdgesAsked, MarkedAsked, MarkedDone};
 use coder::inner::bytes::number;
 use coder::inner::tables::Coder;
-use first_pair::inner::ENDLESS;
-use first_pair::inner::LETTER;
+use first_pair::inner::LETTER_COST;
+use first_pair::inner::NO_COST;
 
 // The least cost of a pair (x, y), y the next state of v on a letter of the row, where one is below `cap`.
 fn least_on<'a>(
@@ -72,7 +72,7 @@ pub fn marked<'a>(
 {
     let states = c.states;
     let inputs = c.inputs;
-    let mut table = [ENDLESS; 256];
+    let mut table = [NO_COST; 256];
     let mut a = 0;
     while a < Coder::STATES * states {
         let u = a / Coder::STATES;
@@ -86,9 +86,9 @@ pub fn marked<'a>(
             inputs,
             u,
             v,
-            ENDLESS - LETTER,
+            NO_COST - LETTER_COST,
         );
-        table[a] = LETTER + cost;
+        table[a] = LETTER_COST + cost;
         a += 1;
     }
     table

@@ -2,11 +2,11 @@
 ghost use Prim.Native.Nat.{ℕ, _<_, _≤_};
 ghost use lib.ListN.{getD};
 ghost use Rattle.coder.specs.Refusal.{Judges};
-ghost use Rattle.first_pair.specs.Cost.{limit, endless};
+ghost use Rattle.first_pair.specs.Cost.{tooLong, noCost};
 ghost use Rattle.costs.specs.Starts.{totalOf, StartPair, FirstStart};
 use coder::inner::tables::Coder;
-use first_pair::inner::LETTER;
-use first_pair::inner::LIMIT;
+use first_pair::inner::LETTER_COST;
+use first_pair::inner::TOO_LONG;
 use setting::inner::has;
 
 // Whether both states of the pair a are start states.
@@ -28,18 +28,18 @@ fn starts_both(states: usize, starts: u16, a: usize) -> bool
 
 // The first pair of start states with the fewest letters; 0 where none has fewer than are looked for.
 pub fn first_start(states: usize, starts: u16, loops: &[usize; 256], heads: &[usize; 256]) -> usize
-    requires { ⌜ (states ≤ 16) × ((k : ℕ) → getD (now loops) k 0 ≤ endless) × ((k : ℕ) → getD (now heads) k 0 ≤ endless) ⌝ }
-    ensures { λ r. ⌜ ((b : ℕ) → StartPair states starts b → totalOf (now (loops .entry)) (now (heads .entry)) b < limit →
+    requires { ⌜ (states ≤ 16) × ((k : ℕ) → getD (now loops) k 0 ≤ noCost) × ((k : ℕ) → getD (now heads) k 0 ≤ noCost) ⌝ }
+    ensures { λ r. ⌜ ((b : ℕ) → StartPair states starts b → totalOf (now (loops .entry)) (now (heads .entry)) b < tooLong →
         FirstStart states starts (now (loops .entry)) (now (heads .entry)) r) ⌝ }
 {
-    let mut fewest = LIMIT;
+    let mut fewest = TOO_LONG;
     let mut first = 0;
     let mut a = 0;
     while a < Coder::STATES * states {
         let at = a;
         a += 1;
         if starts_both(states, starts, at) {
-            let total = (loops[at] + heads[at]) / LETTER;
+            let total = (loops[at] + heads[at]) / LETTER_COST;
             if total < fewest {
                 fewest = total;
                 first = at;

@@ -1,23 +1,22 @@
 // The shortest closed walk at each pair of states.
-ghost use mathlib.Core.Path.{_≡_};
-ghost use Prim.Native.Nat.{ℕ, _<_, _≤_};
+ghost use Prim.Native.Nat.{_<_, _≤_};
 ghost use Rattle.first_pair.specs.Cost.{CostTable};
-ghost use Rattle.cycles.specs.Successors.{PairWords, limit, CycleFound, LoopsFound};
+ghost use Rattle.cycles.specs.Successors.{PairWords, tooLong, CycleFound, LoopsFound};
 use crate::inner::sets::add_pair;
 use crate::inner::sets::empty;
 use crate::inner::sets::image;
 use crate::inner::sets::part;
 use coder::inner::tables::Coder;
-use first_pair::inner::ENDLESS;
-use first_pair::inner::LETTER;
-use first_pair::inner::LIMIT;
+use first_pair::inner::LETTER_COST;
+use first_pair::inner::NO_COST;
+use first_pair::inner::TOO_LONG;
 use setting::inner::has;
 
 // The letters of the shortest closed walk at (u, v), or the limit: from set to set of the pairs that one letter more leads to, each
 // pair being followed once.
 fn cycle(words: &[u16; 4096], states: usize, u: usize, v: usize) -> usize
     requires { ⌜ PairWords (now words) × (states ≤ 16) × (u < states) × (v < states) ⌝ }
-    ensures { λ r. ⌜ (r ≤ limit) × CycleFound (now (words .entry)) states u v r ⌝ }
+    ensures { λ r. ⌜ (r ≤ tooLong) × CycleFound (now (words .entry)) states u v r ⌝ }
 {
     let mut seen = empty();
     let mut set = empty();
@@ -29,21 +28,21 @@ fn cycle(words: &[u16; 4096], states: usize, u: usize, v: usize) -> usize
             return k;
         }
         k += 1;
-        if k == LIMIT {
-            return LIMIT;
+        if k == TOO_LONG {
+            return TOO_LONG;
         }
         let mut to = image(words, states, &set);
         some = part(&mut to, &mut seen);
         set = to;
     }
-    LIMIT
+    TOO_LONG
 }
 
 // All costs endless.
 fn without() -> [usize; 256]
     ensures { λ r. ⌜ CostTable r ⌝ }
 {
-    [ENDLESS; 256]
+    [NO_COST; 256]
 }
 
 // The cost of a closed walk at each pair. That of (v, u) is that of (u, v), so each is looked for once.
@@ -58,7 +57,7 @@ pub fn loops(words: &[u16; 4096], states: usize) -> [usize; 256]
         let v = a % Coder::STATES;
         a += 1;
         if v <= u {
-            let cost = LETTER * cycle(words, states, u, v);
+            let cost = LETTER_COST * cycle(words, states, u, v);
             table[Coder::STATES * u + v] = cost;
             table[Coder::STATES * v + u] = cost;
         }

@@ -5,7 +5,7 @@ ghost use Prim.Native.Nat.{ℕ, _+_, _*_, _<_};
 ghost use lib.ListN.{length, getD};
 ghost use Rattle.mealy.specs.Word.{Holds};
 ghost use Rattle.coder.specs.Table.{machineOfCoder, Sound};
-ghost use Rattle.cycles.specs.Successors.{FillAsked, FillDone, GivesOutput, SuccessorsOf};
+ghost use Rattle.cycles.specs.Successors.{SuccessorsAsked, SuccessorsFilled, GivesOutput, SuccessorsOf};
 use chains::inner::parts;
 use coder::inner::bytes::number;
 use coder::inner::tables::Coder;
@@ -37,8 +37,8 @@ fn fill<'a>(
     states: usize,
     inputs: usize,
 ) -> [u16; 4096]
-    requires { ⌜ FillAsked (now next) (now output) (now to) states ⌝ }
-    ensures { λ r. ⌜ FillDone (now (next .entry)) (now (output .entry)) (now (to .entry)) states inputs r ⌝ }
+    requires { ⌜ SuccessorsAsked (now next) (now output) (now to) states ⌝ }
+    ensures { λ r. ⌜ SuccessorsFilled (now (next .entry)) (now (output .entry)) (now (to .entry)) states inputs r ⌝ }
 {
     let mut words = none();
     let mut k = 0;

@@ -2,12 +2,12 @@
 ghost use Prim.Native.Nat.{_<_};
 ghost use Rattle.first_pair.specs.Cost.{CostTable};
 ghost use Rattle.loops.specs.Parts.{OnlyAt, ClosedAsked, ClosedWritten, MarkAsked, MarkWritten, BetweenAsked, BetweenDone};
-use crate::inner::IN_LETTER;
-use crate::inner::OUT_LETTER;
+use crate::inner::IN_COST;
+use crate::inner::OUT_COST;
 use coder::inner::tables::Coder;
-use costs::inner::settle::settle;
-use first_pair::inner::ENDLESS;
-use first_pair::inner::LETTER;
+use costs::inner::lowering::lower_costs;
+use first_pair::inner::LETTER_COST;
+use first_pair::inner::NO_COST;
 use letters::inner::after;
 use letters::inner::lowest;
 use letters::inner::write;
@@ -18,7 +18,7 @@ fn only(a: usize) -> [usize; 256]
     requires { ⌜ a < 256 ⌝ }
     ensures { λ r. ⌜ CostTable r × OnlyAt a r ⌝ }
 {
-    let mut t = [ENDLESS; 256];
+    let mut t = [NO_COST; 256];
     t[a] = 0;
     t
 }
@@ -38,7 +38,7 @@ pub fn write_closed(
     let states = c.states;
     let inputs = c.inputs;
     let mut to = only(a);
-    settle(words, states, 1, &mut to);
+    lower_costs(words, states, 1, &mut to);
     write(&c.next, &c.output, inputs, &to, 1, 0, a, n, place, letters);
 }
 
@@ -77,15 +77,15 @@ pub fn write_between<'a>(
     let inputs = c.inputs;
     let mark = p.back_loop + p.lead_in;
     let from = Coder::STATES * p.s + p.t;
-    let loop_cost = LETTER * p.forward_loop;
-    let rest = OUT_LETTER * p.lead_out + loop_cost;
+    let loop_cost = LETTER_COST * p.forward_loop;
+    let rest = OUT_COST * p.lead_out + loop_cost;
     let u = write(
         &c.next,
         &c.output,
         inputs,
         heads,
-        IN_LETTER,
-        LETTER + rest,
+        IN_COST,
+        LETTER_COST + rest,
         from,
         p.lead_in,
         p.back_loop,
@@ -97,7 +97,7 @@ pub fn write_between<'a>(
         &c.output,
         inputs,
         tails,
-        OUT_LETTER,
+        OUT_COST,
         loop_cost,
         next,
         p.lead_out,

@@ -1,16 +1,16 @@
 // The tables of costs that the first looped pair is found by, and its starts and lengths.
 ghost use Rattle.coder.specs.Table.{machineOfCoder, Sound};
 ghost use Rattle.first_pair.specs.Successors.{SuccessorsOf};
-ghost use Rattle.loops.specs.Parts.{TablesOf, LengthsAsked, LengthsDone};
-use crate::inner::IN_LETTER;
-use crate::inner::OUT_LETTER;
+ghost use Rattle.loops.specs.Parts.{CostTablesOf, LengthsAsked, LengthsDone};
+use crate::inner::IN_COST;
+use crate::inner::OUT_COST;
 use chains::inner::parts;
 use coder::inner::tables::Coder;
+use costs::inner::lowering::lower_costs;
 use costs::inner::marked::marked;
-use costs::inner::settle::settle;
 use costs::inner::starts::first_start;
-use first_pair::inner::LETTER;
-use first_pair::inner::LIMIT;
+use first_pair::inner::LETTER_COST;
+use first_pair::inner::TOO_LONG;
 use fitting::inner::tables::by_output;
 use values::LoopedPair;
 
@@ -23,18 +23,18 @@ pub struct CostTables {
 
 pub fn tables<'a>(c: Coder, words: &'a [u16; 4096], conflicts: &'a [u16; 16]) -> CostTables
     requires { ⌜ Sound c × SuccessorsOf (machineOfCoder c) (now words) ⌝ }
-    ensures { λ r. ⌜ TablesOf c (now (conflicts .entry)) (r .loops) (r .tails) (r .heads) ⌝ }
+    ensures { λ r. ⌜ CostTablesOf c (now (conflicts .entry)) (r .loops) (r .tails) (r .heads) ⌝ }
 {
     let states = c.states;
     let inputs = c.inputs;
     let loops = cycles::inner::closed::loops(words, states);
     let mut tails = loops;
-    settle(words, states, OUT_LETTER, &mut tails);
+    lower_costs(words, states, OUT_COST, &mut tails);
     let own = parts(false);
     let letters = parts(true);
     let rows = by_output(&own, &letters, &c.output, states, inputs);
     let mut heads = marked(c, &rows, conflicts, &tails);
-    settle(words, states, IN_LETTER, &mut heads);
+    lower_costs(words, states, IN_COST, &mut heads);
     CostTables {
         loops,
         tails,
@@ -54,14 +54,14 @@ pub fn lengths<'a>(
 {
     let a = first_start(states, starts, loops, heads);
     let head = heads[a];
-    let lead_in = head % LETTER / LIMIT;
-    let lead_out = head % LIMIT;
+    let lead_in = head % LETTER_COST / TOO_LONG;
+    let lead_out = head % TOO_LONG;
     LoopedPair {
         s: a / Coder::STATES,
         t: a % Coder::STATES,
-        back_loop: loops[a] / LETTER,
+        back_loop: loops[a] / LETTER_COST,
         lead_in,
         lead_out,
-        forward_loop: head / LETTER - 1 - lead_in - lead_out,
+        forward_loop: head / LETTER_COST - 1 - lead_in - lead_out,
     }
 }

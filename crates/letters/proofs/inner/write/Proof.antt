@@ -5,16 +5,16 @@ use Prim.Native.Nat.{ℕ, _-_, _+_, _*_, _≤_}
 use lib.ListN.{length-set}
 use native.Mathlib.Nat.{mul-le-mul}
 use Rattle.coder.specs.declared.inner.tables.Coder.{Coder}
-use Rattle.letters.specs.Walk.{LowestAsked, ArraysOf, WriteFrom}
+use Rattle.letters.specs.Walk.{LowestAsked, CoderArrays, WriteFrom}
 use Rattle.letters.specs.Walk.{StaysOutside}
-use Rattle.letters.proofs.Steps.{Walked, kept-none, kept-more, walked-none, walked-asks, walked-more, walked-all}
+use Rattle.letters.proofs.Steps.{WalkSoFar, kept-none, kept-more, walked-none, walked-asks, walked-more, walked-all}
 use Rattle.letters.proofs.inner.write.Statement.{statement}
 use Rattle.letters.proofs.inner.write.Tie as tie
 
 abbrev Inv-loop : tie.InvT-loop
 Inv-loop next output inputs t step base from n place letters₀ allowed a₀ k₀ letters a k =
     (k ≤ n) × StaysOutside place k letters₀ letters ×
-    ((c : Coder) → ArraysOf c next output inputs → WriteFrom c t step base from n → Walked c t step base from n place k (n - k) a letters)
+    ((c : Coder) → CoderArrays c next output inputs → WriteFrom c t step base from n → WalkSoFar c t step base from n place k (n - k) a letters)
 
 abbrev μ-loop : tie.MeasureT-loop
 μ-loop next output inputs t step base from n place letters₀ allowed a₀ k₀ letters a k = n - k

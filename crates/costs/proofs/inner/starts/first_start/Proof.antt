@@ -3,21 +3,21 @@ use borrow.Author.Needs.{needs}
 use native.Mathlib.Omega.{arith}
 use mathlib.Core.Path.{refl}
 use Prim.Native.Nat.{_≤_, _*_, _-_}
-use Rattle.first_pair.specs.Cost.{limit}
+use Rattle.first_pair.specs.Cost.{tooLong}
 use Rattle.costs.specs.Starts.{totalOf, StartPair}
-use Rattle.costs.proofs.FirstStarts.{FirstBelow, first-none, first-kept, first-lower, first-found}
+use Rattle.costs.proofs.FirstStarts.{FirstBelow, start-none, start-kept, start-lower, start-found}
 use Rattle.costs.proofs.inner.starts.first_start.Statement.{statement}
 use Rattle.costs.proofs.inner.starts.first_start.Tie as tie
 
 abbrev Inv-loop : tie.InvT-loop
 Inv-loop states starts loops heads fewest₀ first₀ a₀ fewest first a =
-    (a ≤ 16 * states) × FirstBelow (StartPair states starts) (totalOf loops heads) limit fewest first a
+    (a ≤ 16 * states) × FirstBelow (StartPair states starts) (totalOf loops heads) tooLong fewest first a
 
 abbrev μ-loop : tie.MeasureT-loop
 μ-loop states starts loops heads fewest₀ first₀ a₀ fewest first a = 16 * states - a
 
 loop-holds : tie.Need-loop-holds Inv-loop μ-loop
-loop-holds c = (omega arith, first-none)
+loop-holds c = (omega arith, start-none)
 
 mul-loop : tie.Need-mul-loop Inv-loop μ-loop
 mul-loop c = search needs
@@ -52,13 +52,13 @@ loop-again : tie.Need-loop-again Inv-loop μ-loop
 loop-again c =
     let b = c .before .before .before in
     let p = b .before .starts-both .ensures .yes′ (b .if1 .taken) in
-    (omega arith, first-lower (b .before .before .before .loop .inv .1) p refl (c .if2 .taken))
+    (omega arith, start-lower (b .before .before .before .loop .inv .1) p refl (c .if2 .taken))
 
 loop-less-2 : tie.Need-loop-less-2 Inv-loop μ-loop
 loop-less-2 c = search needs
 
 loop-again-2 : tie.Need-loop-again-2 Inv-loop μ-loop
-loop-again-2 c = (omega arith, first-kept (c .before .before .before .before .before .before .loop .inv .1) (λ p. c .if2 .left))
+loop-again-2 c = (omega arith, start-kept (c .before .before .before .before .before .before .loop .inv .1) (λ p. c .if2 .left))
 
 loop-less-3 : tie.Need-loop-less-3 Inv-loop μ-loop
 loop-less-3 c = search needs
@@ -66,10 +66,10 @@ loop-less-3 c = search needs
 loop-again-3 : tie.Need-loop-again-3 Inv-loop μ-loop
 loop-again-3 c =
     let b = c .before in
-    (omega arith, first-kept (b .before .before .loop .inv .1) (λ p. absurd (b .starts-both .ensures .no′ (c .if1 .left) p)))
+    (omega arith, start-kept (b .before .before .loop .inv .1) (λ p. absurd (b .starts-both .ensures .no′ (c .if1 .left) p)))
 
 returns : tie.Need-returns Inv-loop μ-loop
-returns c = first-found (c .before .loop .inv .1) (c .loop-test .left)
+returns c = start-found (c .before .loop .inv .1) (c .loop-test .left)
 
 pub first-start-spec : {M : Type 1} → statement M
 first-start-spec =

@@ -2,14 +2,14 @@
 use Prim.Native.Nat.{_≤_, _-_, _*_, _/_, _%_}
 use Rattle.first_pair.specs.Cost.{CostTable}
 use Rattle.first_pair.proofs.Costs.{table-set}
-use Rattle.cycles.proofs.Symmetry.{looped-cost, CostsBelow, costs-none, costs-skip, costs-more, costs-all}
+use Rattle.cycles.proofs.Symmetry.{looped-cost, LoopsBelow, costs-none, costs-skip, costs-more, costs-all}
 use borrow.Author.Needs.{needs}
 use native.Mathlib.Omega.{arith}
 use Rattle.cycles.proofs.inner.closed.loops.Statement.{statement}
 use Rattle.cycles.proofs.inner.closed.loops.Tie as tie
 
 abbrev Inv-loop : tie.InvT-loop
-Inv-loop words states table₀ a₀ table a = (a ≤ 16 * states) × CostsBelow words states table a × CostTable table
+Inv-loop words states table₀ a₀ table a = (a ≤ 16 * states) × LoopsBelow words states table a × CostTable table
 
 abbrev μ-loop : tie.MeasureT-loop
 μ-loop words states table₀ a₀ table a = 16 * states - a

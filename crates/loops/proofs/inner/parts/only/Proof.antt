@@ -3,7 +3,7 @@ use borrow.Author.Needs.{needs}
 use mathlib.Core.Path.{refl}
 use native.Mathlib.Omega.{arith}
 use lib.ListN.{getD-replicate, replicate}
-use Rattle.first_pair.specs.Cost.{endless}
+use Rattle.first_pair.specs.Cost.{noCost}
 use Rattle.first_pair.proofs.Costs.{table-endless, table-set}
 use Rattle.loops.proofs.ClosedParts.{only-at}
 use Rattle.loops.proofs.inner.parts.only.Statement.{statement}
@@ -18,7 +18,7 @@ array-write-t c = search needs
 returns : tie.Need-returns
 returns c = (
   table-set table-endless (c .pre) (omega arith),
-  only-at (replicate 256 endless) (c .args .a) (c .pre) refl (λ k l. getD-replicate 256 k endless 0 l),
+  only-at (replicate 256 noCost) (c .args .a) (c .pre) refl (λ k l. getD-replicate 256 k noCost 0 l),
 )
 
 pub only-spec : {M : Type 1} → statement M

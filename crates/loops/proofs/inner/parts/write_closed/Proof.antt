@@ -7,14 +7,14 @@ use Rattle.loops.proofs.inner.parts.write_closed.Tie as tie
 only-requires : tie.Need-only-requires
 only-requires c κs = search needs
 
-settle-requires : tie.Need-settle-requires
-settle-requires c κs = search needs
+lower-costs-requires : tie.Need-lower-costs-requires
+lower-costs-requires c κs = search needs
 
 write-requires : tie.Need-write-requires
 write-requires c κs =
     let s = c .before .before .before .before .before in
     let o = s .before .before in
-    closed-asks (o .before .before .pre) (o .only .ensures .1) (s .settle .ensures .1)
+    closed-asks (o .before .before .pre) (o .only .ensures .1) (s .lower-costs .ensures .1)
 
 same-length : tie.Need-same-length
 same-length c = search needs
@@ -24,7 +24,7 @@ returns c =
     let w = c .before .before in
     let s = w .before .before .before .before .before .before in
     let o = s .before .before in
-    closed-writes (o .before .before .pre) (o .only .ensures .1) (s .settle .ensures .1) (w .write .ensures)
+    closed-writes (o .before .before .pre) (o .only .ensures .1) (s .lower-costs .ensures .1) (w .write .ensures)
 
 pub write-closed-spec : {M : Type 1} → statement M
-write-closed-spec = tie.close (tie.spec only-requires settle-requires write-requires same-length returns)
+write-closed-spec = tie.close (tie.spec only-requires lower-costs-requires write-requires same-length returns)

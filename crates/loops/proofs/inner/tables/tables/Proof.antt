@@ -16,8 +16,8 @@ start n = n .before .before .before .before .before
 loops-requires : tie.Need-loops-requires
 loops-requires c κs = search needs
 
-settle-requires : tie.Need-settle-requires
-settle-requires c κs = search needs
+lower-costs-requires : tie.Need-lower-costs-requires
+lower-costs-requires c κs = search needs
 
 parts-requires : tie.Need-parts-requires
 parts-requires c κs = search needs
@@ -39,8 +39,8 @@ marked-requires c κs =
       letters-are = rw (p .before .parts .ensures, p .parts2 .ensures) at (m .by-output .ensures);
     }
 
-settle-requires-2 : tie.Need-settle-requires-2
-settle-requires-2 c κs = search needs
+lower-costs-requires-2 : tie.Need-lower-costs-requires-2
+lower-costs-requires-2 c κs = search needs
 
 returns : tie.Need-returns
 returns c =
@@ -48,17 +48,17 @@ returns c =
     let p = parted (m .before .before .before .before) in
     let s = p .before .before in
     let l = s .before .before in
-    tables-made _ _ _ _ _ _ _ (start p .pre .1) (l .loops .ensures) (s .settle .ensures .1) (m .marked .ensures .1) (c .settle2 .ensures)
+    tables-made _ _ _ _ _ _ _ (start p .pre .1) (l .loops .ensures) (s .lower-costs .ensures .1) (m .marked .ensures .1) (c .lower-costs2 .ensures)
 
 pub tables-spec : {M : Type 1} → statement M
 tables-spec =
     tie.close
     (tie.spec
     loops-requires
-    settle-requires
+    lower-costs-requires
     parts-requires
     parts-requires-2
     by-output-requires
     marked-requires
-    settle-requires-2
+    lower-costs-requires-2
     returns)

@@ -1,12 +1,11 @@
 // Least costs in a table, pair by pair, until none falls.
-ghost use mathlib.Core.Path.{_≡_};
-ghost use Prim.Native.Nat.{ℕ, _+_, _<_, _≤_};
-ghost use lib.ListN.{length, getD};
-ghost use Rattle.first_pair.specs.Cost.{CostTable, Capped, endless};
+ghost use Prim.Native.Nat.{ℕ, _<_, _≤_};
+ghost use lib.ListN.{getD};
+ghost use Rattle.first_pair.specs.Cost.{CostTable, Capped, noCost};
 ghost use Rattle.first_pair.specs.Successors.{PairWords};
-ghost use Rattle.costs.specs.Settle.{RowCost, NextCost, PassAsked, PassDone, SettleAsked, SettleDone};
+ghost use Rattle.costs.specs.Lowering.{RowCost, NextCost, PassAsked, PassDone, LoweringAsked, LoweringDone};
 use coder::inner::tables::Coder;
-use first_pair::inner::ENDLESS;
+use first_pair::inner::NO_COST;
 
 // The least cost of a pair (x, y), y in the row, where one is below `cap`.
 fn least_in_row(t: &[usize; 256], x: usize, row: u16, cap: usize) -> usize
@@ -43,9 +42,9 @@ fn least_next(words: &[u16; 4096], t: &[usize; 256], states: usize, a: usize, ca
 
 // No cost in the table is below this one.
 fn least_of(t: &[usize; 256]) -> usize
-    ensures { λ r. ⌜ ((k : ℕ) → k < 256 → r ≤ getD (now (t .entry)) k 0) × (r ≤ endless) ⌝ }
+    ensures { λ r. ⌜ ((k : ℕ) → k < 256 → r ≤ getD (now (t .entry)) k 0) × (r ≤ noCost) ⌝ }
 {
-    let mut least = ENDLESS;
+    let mut least = NO_COST;
     let mut k = 0;
     while k < 256 {
         let cost = t[k];
@@ -69,7 +68,7 @@ fn pass(words: &[u16; 4096], states: usize, step: usize, low: usize, t: &mut [us
         a -= 1;
         let cost = t[a];
         if low + step < cost {
-            let next = least_next(words, t, states, a, ENDLESS) + step;
+            let next = least_next(words, t, states, a, NO_COST) + step;
             if next < cost {
                 t[a] = next;
                 fell = true;
@@ -80,9 +79,9 @@ fn pass(words: &[u16; 4096], states: usize, step: usize, low: usize, t: &mut [us
 }
 
 // Passes until none falls.
-pub fn settle(words: &[u16; 4096], states: usize, step: usize, t: &mut [usize; 256])
-    requires { ⌜ SettleAsked (now words) states step (now t) ⌝ }
-    ensures { λ _. ⌜ CostTable (now (t .exit)) × SettleDone (now (words .entry)) states step (now (t .entry)) (now (t .exit)) ⌝ }
+pub fn lower_costs(words: &[u16; 4096], states: usize, step: usize, t: &mut [usize; 256])
+    requires { ⌜ LoweringAsked (now words) states step (now t) ⌝ }
+    ensures { λ _. ⌜ CostTable (now (t .exit)) × LoweringDone (now (words .entry)) states step (now (t .entry)) (now (t .exit)) ⌝ }
 {
     let low = least_of(t);
     let mut fell = true;

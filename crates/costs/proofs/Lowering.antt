@@ -14,9 +14,9 @@ use Rattle.mealy.specs.Image.{Image}
 use Rattle.mealy.proofs.Members.{has-below}
 use Rattle.mealy.proofs.Sums.{sum, sum-le}
 use Rattle.first_pair.specs.Reach.{Reach}
-use Rattle.first_pair.specs.Cost.{CostTable, Capped, Cost, Seeds, entry, endless}
+use Rattle.first_pair.specs.Cost.{CostTable, Capped, Cost, Seeds, entry, noCost}
 use Rattle.first_pair.specs.Successors.{wordAt, SuccessorsOf}
-use Rattle.costs.specs.Settle.{RowCost, NextCost, PassAsked, CostsIn, PassDone, SettleAsked, SettleDone}
+use Rattle.costs.specs.Lowering.{RowCost, NextCost, PassAsked, CostsIn, PassDone, LoweringAsked, LoweringDone}
 use Rattle.first_pair.proofs.Capping.{capped-map}
 
 -- ---- the least cost of a pair that follows
@@ -57,7 +57,7 @@ pub record Passing (words : List ℕ) (states step low : ℕ) (t₀ t : List ℕ
 -- the cost of one letter in front of a pair that follows
 one-more :
     {words : List ℕ} {M : Machine} (s t : List ℕ) {states step m u v : ℕ} → SuccessorsOf M words → M .states ≡ states →
-    u < states → v < states → m < endless → CostsIn states (Cost M step (Seeds s)) t → NextCost words t states (16 * u + v) m →
+    u < states → v < states → m < noCost → CostsIn states (Cost M step (Seeds s)) t → NextCost words t states (16 * u + v) m →
     Cost M step (Seeds s) (m + step) u v
 one-more {words} {M} s t {states} {step} {m} {u} {v} w states-are p q l h c =
     let b = c .below in
@@ -127,23 +127,23 @@ module _ {words : List ℕ} {states step low : ℕ} {t₀ : List ℕ} (asked : P
   -- as it is at most a step above those that follow it
   pub passing-high :
       {t : List ℕ} {fell : Bool} {a m : ℕ} → Passing words states step low t₀ t fell a → 0 < a →
-      Capped (NextCost words t states (a - 1)) endless m → getD t (a - 1) 0 ≤ m + step → Passing words states step low t₀ t fell (a - 1)
+      Capped (NextCost words t states (a - 1)) noCost m → getD t (a - 1) 0 ≤ m + step → Passing words states step low t₀ t fell (a - 1)
   passing-high p l h e = passing-kept p l (λ n c. omega (arith, h .least n c))
 
   -- it falls
   pub passing-fell :
       {t : List ℕ} {fell : Bool} {a m : ℕ} → Passing words states step low t₀ t fell a → 0 < a →
-      Capped (NextCost words t states (a - 1)) endless m → m + step < getD t (a - 1) 0 →
+      Capped (NextCost words t states (a - 1)) noCost m → m + step < getD t (a - 1) 0 →
       Passing words states step low t₀ (set t (a - 1) (m + step)) true (a - 1)
   passing-fell {t} {fell} {a} {m} p l h f =
       record {
         below = omega (arith, p .below);
         table = record {
           size = length-set t (a - 1) (m + step) ∙ p .table .size;
-          high = λ k. at k (λ x. x ≤ endless) (λ q. omega (arith, p .table .high (a - 1))) (p .table .high k);
+          high = λ k. at k (λ x. x ≤ noCost) (λ q. omega (arith, p .table .high (a - 1))) (p .table .high k);
         };
         low-least = λ k b. at k (λ x. low ≤ x) (λ q. omega (arith, next-low p (a - 1) m next)) (p .low-least k b);
-        costs = λ M s w e c u v lu lv. at (16 * u + v) (λ x. x < endless → Cost M step (Seeds s) x u v)
+        costs = λ M s w e c u v lu lv. at (16 * u + v) (λ x. x < noCost → Cost M step (Seeds s) x u v)
             (λ q _. one-more s t w e lu lv ended (p .costs M s w e c) (rw q next))
             (p .costs M s w e c u v lu lv);
         falls = falls;
@@ -168,7 +168,7 @@ module _ {words : List ℕ} {states step low : ℕ} {t₀ : List ℕ} (asked : P
       falls : (k : ℕ) → getD (set t (a - 1) (m + step)) k 0 ≤ getD t₀ k 0
       falls k = at k (λ x. x ≤ getD t₀ k 0) (λ q. rw q (omega (arith, p .falls (a - 1)))) (p .falls k)
 
-      ended : m < endless
+      ended : m < noCost
       ended = omega (arith, p .table .high (a - 1))
 
       next : NextCost words t states (a - 1) m
@@ -189,8 +189,8 @@ module _ {words : List ℕ} {states step low : ℕ} {t₀ : List ℕ} (asked : P
 -- ---- passes until none falls
 
 -- what holds of the table t after passes, the first over t₀; `fell` says whether any cost fell in the last one
-pub record Settling (words : List ℕ) (states step low : ℕ) (t₀ t : List ℕ) (fell : Bool) : Type 0 where
-  pub low-high : low ≤ endless
+pub record LoweringSoFar (words : List ℕ) (states step low : ℕ) (t₀ t : List ℕ) (fell : Bool) : Type 0 where
+  pub low-high : low ≤ noCost
   pub table : CostTable t
   pub low-least : (k : ℕ) → k < 256 → low ≤ getD t k 0
   pub costs : (M : Machine) → SuccessorsOf M words → M .states ≡ states → CostsIn states (Cost M step (Seeds t₀)) t
@@ -216,19 +216,19 @@ measure-less {t = t} {t′ = t′} false p =
     less : (a b : ℕ) → a ≤ b → a < suc b
     less a b l = omega arith
 
-pub settling-less :
+pub lowering-less :
     {words : List ℕ} {states step low : ℕ} {t t′ : List ℕ} {fell fell′ : Bool} → fell ≡ true → PassDone words states step low t t′ fell′ →
     measure t′ fell′ < measure t fell
-settling-less {fell′ = fell′} e p = rw e (measure-less fell′ p)
+lowering-less {fell′ = fell′} e p = rw e (measure-less fell′ p)
 
 -- each cost is that of a walk of no letters
 start : (M : Machine) (step : ℕ) (t : List ℕ) (n : ℕ) → CostsIn n (Cost M step (Seeds t)) t
 start M step t n u v lu lv l = record { k = 0; n = entry t u v; all = omega (arith, mul-zero step); reach = (refl, l) }
 
-module _ {words : List ℕ} {states step : ℕ} {t₀ : List ℕ} (asked : SettleAsked words states step t₀) where
-  pub settling-none :
-      {low : ℕ} → low ≤ endless → ((k : ℕ) → k < 256 → low ≤ getD t₀ k 0) → Settling words states step low t₀ t₀ true
-  settling-none l h =
+module _ {words : List ℕ} {states step : ℕ} {t₀ : List ℕ} (asked : LoweringAsked words states step t₀) where
+  pub lowering-none :
+      {low : ℕ} → low ≤ noCost → ((k : ℕ) → k < 256 → low ≤ getD t₀ k 0) → LoweringSoFar words states step low t₀ t₀ true
+  lowering-none l h =
       record {
         low-high = l;
         table = asked .table;
@@ -238,8 +238,8 @@ module _ {words : List ℕ} {states step : ℕ} {t₀ : List ℕ} (asked : Settl
         still = λ e. absurd (true≢false e);
       }
 
-  pub settling-asked : {low : ℕ} {t : List ℕ} {fell : Bool} → Settling words states step low t₀ t fell → PassAsked words states step low t
-  settling-asked s =
+  pub lowering-asked : {low : ℕ} {t : List ℕ} {fell : Bool} → LoweringSoFar words states step low t₀ t fell → PassAsked words states step low t
+  lowering-asked s =
       record {
         shape = asked .shape;
         few = asked .few;
@@ -249,10 +249,10 @@ module _ {words : List ℕ} {states step : ℕ} {t₀ : List ℕ} (asked : Settl
         low-least = s .low-least;
       }
 
-  pub settling-more :
-      {low : ℕ} {t t′ : List ℕ} {fell fell′ : Bool} → Settling words states step low t₀ t fell → PassDone words states step low t t′ fell′ →
-      Settling words states step low t₀ t′ fell′
-  settling-more s p =
+  pub lowering-more :
+      {low : ℕ} {t t′ : List ℕ} {fell fell′ : Bool} → LoweringSoFar words states step low t₀ t fell → PassDone words states step low t t′ fell′ →
+      LoweringSoFar words states step low t₀ t′ fell′
+  lowering-more s p =
       record {
         low-high = s .low-high;
         table = p .table;
@@ -262,9 +262,9 @@ module _ {words : List ℕ} {states step : ℕ} {t₀ : List ℕ} (asked : Settl
         still = p .still;
       }
 
-  pub settling-done :
-      {low : ℕ} {t : List ℕ} {fell : Bool} → Settling words states step low t₀ t fell → fell ≡ false → SettleDone words states step t₀ t
-  settling-done {low} {t} s none M w e =
+  pub lowering-done :
+      {low : ℕ} {t : List ℕ} {fell : Bool} → LoweringSoFar words states step low t₀ t fell → fell ≡ false → LoweringDone words states step t₀ t
+  lowering-done {low} {t} s none M w e =
       record {
         size = s .table .size;
         at = λ u v lu lv. record {

@@ -7,7 +7,7 @@ use Rattle.mealy.specs.Setting.{Setting}
 use Rattle.mealy.specs.LoopedPair.{LoopedPair, letters, Valid}
 use Rattle.mealy.specs.First.{Lexicographic, First}
 use Rattle.mealy.proofs.FirstPairs.{lexicographic-append}
-use Rattle.first_pair.specs.Reach.{Reach, Cycle, Conflicting}
+use Rattle.first_pair.specs.Reach.{Reach, Cycle, SomeConflictInto}
 use Rattle.first_pair.specs.Lowest.{LowestPair}
 use Rattle.first_pair.proofs.Reaching.{leads-reach}
 use Rattle.first_pair.proofs.Parts.{bytes-taken, PartsOf, parts-as, parts-valid, valid-parts}
@@ -31,7 +31,7 @@ module _ (S : Setting) (q : LoopedPair) (w : Valid S q) where
   pub valid-cycle : Cycle M (q .back-loop) (q .s) (q .t)
   valid-cycle = leads-cycle (w .back-letter) (d .back)
 
-  pub valid-reach : Reach M (Conflicting S (Reach M (Cycle M (q .forward-loop)) (q .lead-out))) (q .lead-in) (q .s) (q .t)
+  pub valid-reach : Reach M (SomeConflictInto S (Reach M (Cycle M (q .forward-loop)) (q .lead-out))) (q .lead-in) (q .s) (q .t)
   valid-reach =
       leads-reach _ (d .before)
       (record {

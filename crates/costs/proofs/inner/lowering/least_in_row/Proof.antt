@@ -4,9 +4,9 @@ use native.Mathlib.Omega.{arith}
 use Rattle.mealy.proofs.Members.{LeastMember, least-member}
 use Rattle.first_pair.specs.Cost.{entry}
 use Rattle.first_pair.proofs.Capping.{LeastPassed, least-none, least-more, least-all, capped-lower, capped-kept}
-use Rattle.costs.proofs.Settling.{row-cost}
-use Rattle.costs.proofs.inner.settle.least_in_row.Statement.{statement}
-use Rattle.costs.proofs.inner.settle.least_in_row.Tie as tie
+use Rattle.costs.proofs.Lowering.{row-cost}
+use Rattle.costs.proofs.inner.lowering.least_in_row.Statement.{statement}
+use Rattle.costs.proofs.inner.lowering.least_in_row.Tie as tie
 
 abbrev Inv-loop : tie.InvT-loop
 Inv-loop t x row cap least₀ rest₀ least rest = LeastPassed row rest (λ y n. entry t x y ≡ n) cap least

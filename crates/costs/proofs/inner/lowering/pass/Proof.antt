@@ -1,9 +1,9 @@
 -- `pass` meets its contract: the pairs from a on are done.
 use borrow.Author.Needs.{needs}
 use native.Mathlib.Omega.{arith}
-use Rattle.costs.proofs.Settling.{Passing, passing-none, passing-low, passing-high, passing-fell, passing-all}
-use Rattle.costs.proofs.inner.settle.pass.Statement.{statement}
-use Rattle.costs.proofs.inner.settle.pass.Tie as tie
+use Rattle.costs.proofs.Lowering.{Passing, passing-none, passing-low, passing-high, passing-fell, passing-all}
+use Rattle.costs.proofs.inner.lowering.pass.Statement.{statement}
+use Rattle.costs.proofs.inner.lowering.pass.Tie as tie
 
 abbrev Inv-loop : tie.InvT-loop
 Inv-loop words states step low t₀ fell₀ a₀ t fell a = Passing words states step low t₀ t fell a

@@ -7,10 +7,10 @@ use Rattle.first_pair.specs.Cost.{Capped}
 use Rattle.mealy.specs.Image.{Image}
 use Rattle.first_pair.specs.Successors.{wordAt}
 use Rattle.first_pair.proofs.Capping.{below-none, below-one}
-use Rattle.costs.specs.Settle.{RowCost}
-use Rattle.costs.proofs.Settling.{next-cost}
-use Rattle.costs.proofs.inner.settle.least_next.Statement.{statement}
-use Rattle.costs.proofs.inner.settle.least_next.Tie as tie
+use Rattle.costs.specs.Lowering.{RowCost}
+use Rattle.costs.proofs.Lowering.{next-cost}
+use Rattle.costs.proofs.inner.lowering.least_next.Statement.{statement}
+use Rattle.costs.proofs.inner.lowering.least_next.Tie as tie
 
 abbrev Inv-loop : tie.InvT-loop
 Inv-loop words t states a cap least₀ x₀ least x = (x ≤ states) × Capped (Image (λ y. RowCost t y (wordAt words a y)) (λ y. y < x)) cap least

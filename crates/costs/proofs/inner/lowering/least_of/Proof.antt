@@ -4,12 +4,12 @@ use borrow.Author.Needs.{needs}
 use Prim.Native.Nat.{ℕ, _-_, _≤_, _<_}
 use native.Mathlib.Omega.{arith}
 use lib.ListN.{getD}
-use Rattle.first_pair.specs.Cost.{endless}
-use Rattle.costs.proofs.inner.settle.least_of.Statement.{statement}
-use Rattle.costs.proofs.inner.settle.least_of.Tie as tie
+use Rattle.first_pair.specs.Cost.{noCost}
+use Rattle.costs.proofs.inner.lowering.least_of.Statement.{statement}
+use Rattle.costs.proofs.inner.lowering.least_of.Tie as tie
 
 abbrev Inv-loop : tie.InvT-loop
-Inv-loop t least₀ k₀ least k = (k ≤ 256) × ((j : ℕ) → j < k → least ≤ getD t j 0) × (least ≤ endless)
+Inv-loop t least₀ k₀ least k = (k ≤ 256) × ((j : ℕ) → j < k → least ≤ getD t j 0) × (least ≤ noCost)
 
 abbrev μ-loop : tie.MeasureT-loop
 μ-loop t least₀ k₀ least k = 256 - k
