@@ -65,19 +65,16 @@ module _ {P : ℕ → Type 0} {total : ℕ → ℕ} {cap fewest first a : ℕ} (
         passed = λ m. omega arith;
       }
 
--- a pair of states is one of the places that are passed
-pair-below : {states starts b : ℕ} → StartPair states starts b → b < 16 * states
-pair-below s = let l = s .below₁ in omega arith
-
+-- every pair of states is passed: of all pairs of start states
 pub start-found :
     {states starts fewest first a : ℕ} {loops heads : List ℕ} →
     FirstBelow (StartPair states starts) (totalOf loops heads) tooLong fewest first a → 16 * states ≤ a →
     (b : ℕ) → StartPair states starts b → totalOf loops heads b < tooLong → FirstStart states starts loops heads first
 start-found {states} {starts} {fewest} {first} {a} {loops} {heads} f l b s m =
-    let k : fewest < tooLong = omega (arith, f .least b (omega (arith, pair-below s)) s) in
+    let k : fewest < tooLong = omega (arith, f .least b (omega (arith, s .0 .0)) s) in
     let e : totalOf loops heads first ≡ fewest = f .has k in
     record {
       start = f .is k;
-      fewest = λ d p. rw e (f .least d (omega (arith, pair-below p)) p);
-      first = λ d p q. f .before k d (omega (arith, pair-below p)) p (q ∙ e);
+      fewest = λ d p. rw e (f .least d (omega (arith, p .0 .0)) p);
+      first = λ d p q. f .before k d (omega (arith, p .0 .0)) p (q ∙ e);
     }

@@ -72,7 +72,7 @@ module _ {c : Coder} {starts : ℕ} {conflicts loops heads : List ℕ} (f : Leng
       let l = b .0 in
       let d : (16 * s + t) / 16 ≡ s = omega arith in
       let r : (16 * s + t) % 16 ≡ t = omega arith in
-      record { below₁ = rw d (a .0); below₂ = rw r (b .0); start₁ = rw d (a .1); start₂ = rw r (b .1) }
+      (rw d a, rw r b)
 
   -- the costs of the starts of a valid pair are at most those of its lengths
   back-most : entry loops (q .s) (q .t) ≤ letterCost * q .back-loop
@@ -101,7 +101,7 @@ module _ {c : Coder} {starts : ℕ} {conflicts loops heads : List ℕ} (f : Leng
         first (16 * q .s + q .t) (start-pair (q .s) (q .t) (v .start mealy.first) (v .start mealy.second)) (omega arith)
 
     pub pair-below : a < 256
-    pair-below = let b = is-first .start .below₁ in let h = f .sound .states-high in omega arith
+    pair-below = let b = is-first .start .0 .0 in let h = f .sound .states-high in omega arith
 
     total-few : totalOf loops heads a ≤ 513
     total-few =
@@ -119,7 +119,7 @@ module _ {c : Coder} {starts : ℕ} {conflicts loops heads : List ℕ} (f : Leng
     cost-at : (A : ℕ → Pairs) (t : List ℕ) → LeastCosts (c .states) A t → getD t a 0 < noCost → A (getD t a 0) (a / 16) (a % 16)
     cost-at A t w l =
         let b = is-first .start in
-        rw place at (w .at (a / 16) (a % 16) (b .below₁) (b .below₂) .holds (rw place l))
+        rw place at (w .at (a / 16) (a % 16) (b .0 .0) (b .1 .0) .holds (rw place l))
 
     pub costs-of : CostsOf (getD loops a 0) (getD heads a 0)
     costs-of =
@@ -144,8 +144,8 @@ module _ {c : Coder} {starts : ℕ} {conflicts loops heads : List ℕ} (f : Leng
         let w = is-first .start in
         let e = total-is costs-of in
         record {
-          start₁ = (w .below₁, w .start₁);
-          start₂ = (w .below₂, w .start₂);
+          start₁ = w .0;
+          start₂ = w .1;
           few = omega (arith, costs-of .few);
           back-is = rw place (sym (costs-of .back-is));
           head-is = rw place (sym (costs-of .head-is));

@@ -4,10 +4,10 @@ use mathlib.Core.Path.{_≡_}
 use mathlib.Core.Bool.{Bool, true, false}
 use mathlib.Core.List.{List}
 use lib.ListN.{length, getD}
-use Rattle.mealy.specs.Word.{Has}
 use Rattle.mealy.specs.Product.{Direction, LevelOf}
 use Rattle.coder.specs.Table.{machineOfCoder, Sound}
 use Rattle.coder.specs.declared.inner.tables.Coder.{Coder}
+pub use Rattle.setting.specs.Words.{StartIn, BothStart}
 use Rattle.chains.specs.Chain.{hasKey}
 use Rattle.product.specs.Depth.{at, endless, Square}
 use Rattle.product.specs.Entries.{nearEnds, farEnds, far, Joins, ArraysOf}
@@ -61,10 +61,6 @@ pub record RightTo (P : ℕ → Type 0) (k x : ℕ) : Type 0 where
   pub below : (m : ℕ) → m ≤ k → P m → m < x
   pub shape : x < endless → x ≤ k
   pub high : x ≤ endless
-
--- s is a start state: one of the n states, and in the word
-abbrev pub StartIn : ℕ → ℕ → ℕ → Type 0
-StartIn n starts s = (s < n) × Has starts s
 
 -- the level sets of the coder c with the start states of the word
 abbrev pub CoderLevel : Coder → Direction → ℕ → ℕ → ℕ → ℕ → Type 0
@@ -130,10 +126,6 @@ abbrev pub RoundDone :
 RoundDone last previous output far′ states k square xs ys square′ xs′ ys′ r =
     (c : Coder) (d : Direction) (starts : ℕ) → ArraysOf c d last previous output far′ → states ≡ c .states →
     Before c d starts k square xs ys → Rounded c d starts k square′ xs′ ys′ r
-
--- both states of a pair are start states
-abbrev pub BothStart : ℕ → ℕ → ℕ → ℕ → Type 0
-BothStart n starts u v = StartIn n starts u × StartIn n starts v
 
 -- Before the first round: the pairs of start states are endless, the others have depth 0.
 pub record Started (n starts : ℕ) (square : List (List ℕ)) : Type 0 where

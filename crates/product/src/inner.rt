@@ -7,17 +7,16 @@ ghost use Prim.Native.Nat.{_+_, _<_, _≤_};
 ghost use lib.ListN.{getD};
 ghost use lib.Dec.{ltb, eqb};
 ghost use Rattle.mealy.specs.Product.{Direction, back as backward, forward as onward};
-ghost use Rattle.coder.specs.Refusal.{Judges};
 ghost use Rattle.coder.specs.Table.{machineOfCoder, Sound};
 ghost use Rattle.product.specs.Depth.{at, Depths};
 ghost use Rattle.product.specs.Entries.{nearEnds, farEnds};
-ghost use Rattle.product.specs.Rounds.{SeekAsked, SeekDone, RoundAsked, RoundDone, StartIn, BothStart};
+ghost use Rattle.product.specs.Rounds.{SeekAsked, SeekDone, RoundAsked, RoundDone, StartIn};
 ghost use Rattle.product.specs.Rounds.{Started, Kept, FirstEdges, AlongAsked};
 use chains::inner::parts;
 use chains::inner::wide;
 use coder::inner::bytes::number;
 use coder::inner::tables::Coder;
-use setting::inner::has;
+use setting::inner::both_start;
 
 // The depth of an endless pair: one that stands at every level.
 pub const ENDLESS: u8 = 255;
@@ -122,28 +121,6 @@ fn round<'a>(
         }
     }
     changed
-}
-
-// Whether s is a start state.
-fn is_start(states: usize, starts: u16, s: usize) -> bool
-    requires { ⌜ s < 16 ⌝ }
-    ensures { λ r. ⌜ Judges (StartIn states starts s) r ⌝ }
-{
-    if s < states {
-        return has(starts, s);
-    }
-    false
-}
-
-// Whether both states of a pair are start states.
-fn both_start(states: usize, starts: u16, u: usize, v: usize) -> bool
-    requires { ⌜ (u < 16) × (v < 16) ⌝ }
-    ensures { λ r. ⌜ Judges (BothStart states starts u v) r ⌝ }
-{
-    if is_start(states, starts, u) {
-        return is_start(states, starts, v);
-    }
-    false
 }
 
 // The depths before the first round.

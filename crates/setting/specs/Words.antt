@@ -13,6 +13,14 @@ use Rattle.coder.specs.declared.inner.tables.Coder.{Coder}
 abbrev pub settingOfCoder : Coder → Setting
 settingOfCoder c = anyState (machineOfCoder c)
 
+-- s is a start state: one of the n states, and in the word
+abbrev pub StartIn : ℕ → ℕ → ℕ → Type 0
+StartIn n starts s = (s < n) × Has starts s
+
+-- both states of a pair are start states
+abbrev pub BothStart : ℕ → ℕ → ℕ → ℕ → Type 0
+BothStart n starts u v = StartIn n starts u × StartIn n starts v
+
 -- word i has bit j exactly where the letters i and j conflict
 pub record ConflictsOf (C : ℕ → ℕ → Type 0) (words : List ℕ) : Type 0 where
   pub size : length words ≡ maxInputs

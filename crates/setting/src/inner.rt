@@ -5,7 +5,7 @@ ghost use mathlib.Core.Logic.{_≢_};
 ghost use Rattle.mealy.specs.Word.{Has, Holds};
 ghost use Rattle.coder.specs.Refusal.{Judges};
 ghost use Rattle.coder.specs.Table.{Sound};
-ghost use Rattle.setting.specs.Words.{settingOfCoder, ConflictsOf};
+ghost use Rattle.setting.specs.Words.{settingOfCoder, StartIn, BothStart, ConflictsOf};
 use coder::inner::tables::Coder;
 
 // Whether x is in a set.
@@ -23,6 +23,28 @@ pub fn start_states(c: Coder) -> u16
 {
     let states = c.states;
     ((1u32 << states) - 1) as u16
+}
+
+// Whether s is a start state.
+fn is_start(states: usize, starts: u16, s: usize) -> bool
+    requires { ⌜ s < 16 ⌝ }
+    ensures { λ r. ⌜ Judges (StartIn states starts s) r ⌝ }
+{
+    if s < states {
+        return has(starts, s);
+    }
+    false
+}
+
+// Whether both states of a pair are start states.
+pub fn both_start(states: usize, starts: u16, u: usize, v: usize) -> bool
+    requires { ⌜ (u < 16) × (v < 16) ⌝ }
+    ensures { λ r. ⌜ Judges (BothStart states starts u v) r ⌝ }
+{
+    if is_start(states, starts, u) {
+        return is_start(states, starts, v);
+    }
+    false
 }
 
 // For each input letter the letters that conflict with it: those that differ from it.

@@ -1,30 +1,12 @@
 // The pair of start states with the fewest letters in all, of these the first.
 ghost use Prim.Native.Nat.{ℕ, _<_, _≤_};
 ghost use lib.ListN.{getD};
-ghost use Rattle.coder.specs.Refusal.{Judges};
 ghost use Rattle.first_pair.specs.Cost.{tooLong, noCost};
 ghost use Rattle.costs.specs.Starts.{totalOf, StartPair, FirstStart};
 use coder::inner::tables::Coder;
 use first_pair::inner::LETTER_COST;
 use first_pair::inner::TOO_LONG;
-use setting::inner::has;
-
-// Whether both states of the pair a are start states.
-fn starts_both(states: usize, starts: u16, a: usize) -> bool
-    requires { ⌜ a < 256 ⌝ }
-    ensures { λ r. ⌜ Judges (StartPair states starts a) r ⌝ }
-{
-    let s = a / Coder::STATES;
-    let t = a % Coder::STATES;
-    if s < states {
-        if t < states {
-            if has(starts, s) {
-                return has(starts, t);
-            }
-        }
-    }
-    false
-}
+use setting::inner::both_start;
 
 // The first pair of start states with the fewest letters; 0 where none has fewer than are looked for.
 pub fn first_start(states: usize, starts: u16, loops: &[usize; 256], heads: &[usize; 256]) -> usize
@@ -37,8 +19,10 @@ pub fn first_start(states: usize, starts: u16, loops: &[usize; 256], heads: &[us
     let mut a = 0;
     while a < Coder::STATES * states {
         let at = a;
+        let s = a / Coder::STATES;
+        let t = a % Coder::STATES;
         a += 1;
-        if starts_both(states, starts, at) {
+        if both_start(states, starts, s, t) {
             let total = (loops[at] + heads[at]) / LETTER_COST;
             if total < fewest {
                 fewest = total;

@@ -25,8 +25,8 @@ mul-loop c = search needs
 add-a : tie.Need-add-a Inv-loop μ-loop
 add-a c = search needs
 
-starts-both-requires : tie.Need-starts-both-requires Inv-loop μ-loop
-starts-both-requires c κs = search needs
+both-start-requires : tie.Need-both-start-requires Inv-loop μ-loop
+both-start-requires c κs = search needs
 
 mul-total : tie.Need-mul-total Inv-loop μ-loop
 mul-total c = search needs
@@ -51,7 +51,7 @@ loop-less c = search needs
 loop-again : tie.Need-loop-again Inv-loop μ-loop
 loop-again c =
     let b = c .before .before .before in
-    let p = b .before .starts-both .ensures .yes′ (b .if1 .taken) in
+    let p = b .before .both-start .ensures .yes′ (b .if1 .taken) in
     (omega arith, start-lower (b .before .before .before .loop .inv .1) p refl (c .if2 .taken))
 
 loop-less-2 : tie.Need-loop-less-2 Inv-loop μ-loop
@@ -66,7 +66,7 @@ loop-less-3 c = search needs
 loop-again-3 : tie.Need-loop-again-3 Inv-loop μ-loop
 loop-again-3 c =
     let b = c .before in
-    (omega arith, start-kept (b .before .before .loop .inv .1) (λ p. absurd (b .starts-both .ensures .no′ (c .if1 .left) p)))
+    (omega arith, start-kept (b .before .before .loop .inv .1) (λ p. absurd (b .both-start .ensures .no′ (c .if1 .left) p)))
 
 returns : tie.Need-returns Inv-loop μ-loop
 returns c = start-found (c .before .loop .inv .1) (c .loop-test .left)
@@ -80,7 +80,7 @@ first-start-spec =
     loop-holds
     mul-loop
     add-a
-    starts-both-requires
+    both-start-requires
     mul-total
     element-copy-out-total
     mul-total-2

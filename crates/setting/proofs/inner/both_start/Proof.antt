@@ -1,8 +1,8 @@
 -- `both_start` meets its contract: the one and the other.
 use borrow.Author.Needs.{needs}
 use Rattle.coder.proofs.Judging.{judges-map, judges-not}
-use Rattle.product.proofs.inner.both_start.Statement.{statement}
-use Rattle.product.proofs.inner.both_start.Tie as tie
+use Rattle.setting.proofs.inner.both_start.Statement.{statement}
+use Rattle.setting.proofs.inner.both_start.Tie as tie
 
 is-start-requires : tie.Need-is-start-requires
 is-start-requires c κs = search needs

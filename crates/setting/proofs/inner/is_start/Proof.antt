@@ -2,8 +2,8 @@
 use borrow.Author.Needs.{needs}
 use native.Mathlib.Omega.{arith}
 use Rattle.coder.proofs.Judging.{judges-map, judges-not}
-use Rattle.product.proofs.inner.is_start.Statement.{statement}
-use Rattle.product.proofs.inner.is_start.Tie as tie
+use Rattle.setting.proofs.inner.is_start.Statement.{statement}
+use Rattle.setting.proofs.inner.is_start.Tie as tie
 
 has-requires : tie.Need-has-requires
 has-requires c κs = search needs
