@@ -196,26 +196,24 @@ module _ (c : Coder) (conflicts : List ℕ) (backs forwards : List (List ℕ)) (
           (raised-sources worst f x l (record { p = p; q = y - 1; conflicting = conflicting-here conflict; forward-is = n; back-is = refl }))
           (λ k. record { least = rw n (raised-least worst f x l); finite = λ w. one .finite z (rw (r .next-is) w) }))
 
-      pub row-found : b ≡ true → RowDone c conflicts backs forwards p before y later
+      pub row-found : b ≡ true → RowDone c conflicts backs forwards p before true later
       row-found z =
           rw (one .stays z)
           record {
-            high = a .high;
             size = a .size;
             grows = a .grows;
             sources = a .sources;
-            none = λ e. absurd (omega arith);
-            some = λ e. record { edge = conflicting-here conflict; ends = rw (r .next-is) at (one .both z) };
+            none = λ e. absurd (true-false refl e);
+            some = λ e. (y - 1, record { edge = conflicting-here conflict; ends = rw (r .next-is) at (one .both z) });
           }
 
-  pub row-end : {before worst : List ℕ} → RowAt before 0 worst → RowDone c conflicts backs forwards p before 0 worst
+  pub row-end : {before worst : List ℕ} → RowAt before 0 worst → RowDone c conflicts backs forwards p before false worst
   row-end a = record {
-    high = omega arith;
     size = a .size;
     grows = a .grows;
     sources = a .sources;
     none = λ e q k. a .counted q k (omega arith);
-    some = λ l. absurd (omega arith);
+    some = λ e. absurd (true-false e refl);
   }
 
 -- ---- all rows: the entries before place a have been counted
@@ -241,8 +239,8 @@ module _ (c : Coder) (conflicts : List ℕ) (backs forwards : List (List ℕ)) (
       ];
     }
 
-    module _ {later : List ℕ} {y : ℕ} (r : RowDone c conflicts backs forwards a worst y later) where
-      pub rows-more : y ≡ 0 → RowsTo before (a + 1) later
+    module _ {later : List ℕ} {b : Bool} (r : RowDone c conflicts backs forwards a worst b later) where
+      pub rows-more : b ≡ false → RowsTo before (a + 1) later
       rows-more z = record {
         size = r .size;
         sources = λ s. r .sources (h .sources s);
@@ -252,25 +250,23 @@ module _ (c : Coder) (conflicts : List ℕ) (backs forwards : List (List ℕ)) (
         ];
       }
 
-      pub rows-found : {x : ℕ} → x ≡ suc a → 0 < y → ConflictsDone c conflicts backs forwards before (record { x = x; y = y }) later
-      rows-found {x} e l = record {
+      pub rows-found : b ≡ true → ConflictsDone c conflicts backs forwards before b later
+      rows-found z = record {
         size = r .size;
         sources = λ s. r .sources (h .sources s);
-        none = λ z. absurd (omega arith);
-        found = λ m. l;
-        some = λ m. let w : x - 1 ≡ a = omega arith in rw w (r .some l);
+        none = λ e. absurd (true-false z e);
+        some = λ e. let w = r .some z in (a, w .0, w .1);
       }
 
   -- no place past the last state holds an entry
   pub rows-end :
       {before worst : List ℕ} {a : ℕ} → RowsTo before a worst → a ≡ 16 * c .states →
-      ConflictsDone c conflicts backs forwards before (record { x = 0; y = 0 }) worst
+      ConflictsDone c conflicts backs forwards before false worst
   rows-end {a} h e = record {
     size = h .size;
     sources = h .sources;
     none = λ z p q k. h .counted p q (omega (arith, entry-place _ _ p (k .entry₁))) k;
-    found = λ l. absurd (omega arith);
-    some = λ l. absurd (omega arith);
+    some = λ z. absurd (true-false z refl);
   }
 
   -- the row of the entry at place a

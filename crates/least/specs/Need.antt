@@ -1,5 +1,5 @@
 -- The letters before that each lookahead needs, by the depths of the conflicting edges.
-use Prim.Native.Nat.{ℕ, _-_, _≤_, _<_}
+use Prim.Native.Nat.{ℕ, _≤_, _<_}
 use mathlib.Core.Path.{_≡_}
 use mathlib.Core.Bool.{Bool, true, false, cond}
 use mathlib.Core.List.{List}
@@ -12,7 +12,6 @@ use Rattle.coder.specs.declared.inner.tables.Coder.{Coder}
 use Rattle.chains.specs.Chain.{isEntry, hasKey, lastBelow, Chained}
 use Rattle.product.specs.Depth.{endless}
 use Rattle.product.specs.Conflict.{Conflicting, backOf, forwardOf, BothEndless, EndlessConflict}
-use Rattle.product.specs.declared.inner.Edge.{Edge}
 use Rattle.values.specs.declared.Window.{Window}
 
 -- An edge that was counted: the table has at its depth forward at least its depth back, and it is not endless on both sides.
@@ -70,17 +69,16 @@ pub record RowAsked (previous next : List ℕ) (p from : ℕ) (before : List ℕ
   pub size : length before ≡ 256
 
 pub record RowDone (c : Coder) (conflicts : List ℕ) (backs forwards : List (List ℕ))
-    (p : ℕ) (before : List ℕ) (r : ℕ) (after : List ℕ) : Type 0 where
-  pub high : r ≤ 256
+    (p : ℕ) (before : List ℕ) (r : Bool) (after : List ℕ) : Type 0 where
   pub size : length after ≡ 256
   pub grows : Grows before after
   pub sources : EachCounted c conflicts backs forwards before → EachCounted c conflicts backs forwards after
-  pub none : r ≡ 0 → (q : ℕ) → Conflicting c conflicts p q → Counted c backs forwards after p q
-  pub some : 0 < r → EndlessConflict c conflicts backs forwards p (r - 1)
+  pub none : r ≡ false → (q : ℕ) → Conflicting c conflicts p q → Counted c backs forwards after p q
+  pub some : r ≡ true → (q : ℕ) × EndlessConflict c conflicts backs forwards p q
 
 -- what `row` does, whatever coder its arrays are of
 abbrev pub RowCounted :
-    List ℕ → List ℕ → List ℕ → List (List ℕ) → List (List ℕ) → ℕ → ℕ → List ℕ → ℕ → List ℕ → Type 0
+    List ℕ → List ℕ → List ℕ → List (List ℕ) → List (List ℕ) → ℕ → ℕ → List ℕ → Bool → List ℕ → Type 0
 RowCounted previous next conflicts backs forwards p from before r after =
     (c : Coder) → RowOf c previous next p from → RowDone c conflicts backs forwards p before r after
 
@@ -89,14 +87,13 @@ pub record ConflictsAsked (c : Coder) (last previous before : List ℕ) : Type 0
   pub sound : Sound c
   pub chained : Chained (c .output) (c .states) (c .inputs) (record { last = last; previous = previous })
 
--- all conflicting edges are counted, or one is found that is endless on both sides
+-- all conflicting edges are counted, or one is endless on both sides
 pub record ConflictsDone (c : Coder) (conflicts : List ℕ) (backs forwards : List (List ℕ))
-    (before : List ℕ) (e : Edge) (after : List ℕ) : Type 0 where
+    (before : List ℕ) (r : Bool) (after : List ℕ) : Type 0 where
   pub size : length after ≡ 256
   pub sources : EachCounted c conflicts backs forwards before → EachCounted c conflicts backs forwards after
-  pub none : e .x ≡ 0 → (p q : ℕ) → Conflicting c conflicts p q → Counted c backs forwards after p q
-  pub found : 0 < e .x → 0 < e .y
-  pub some : 0 < e .x → EndlessConflict c conflicts backs forwards (e .x - 1) (e .y - 1)
+  pub none : r ≡ false → (p q : ℕ) → Conflicting c conflicts p q → Counted c backs forwards after p q
+  pub some : r ≡ true → (p : ℕ) × (q : ℕ) × EndlessConflict c conflicts backs forwards p q
 
 -- x is the most that the table has past place a
 pub record MostPast (worst : List ℕ) (a x : ℕ) : Type 0 where

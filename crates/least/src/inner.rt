@@ -13,7 +13,6 @@ use chains::inner::wide;
 use coder::inner::bytes::number;
 use coder::inner::tables::Coder;
 use product::inner::ENDLESS;
-use product::inner::Edge;
 use setting::inner::has;
 use values::Order;
 use values::Window;
@@ -62,8 +61,8 @@ fn both_endless(b: u8, f: u8) -> bool
     false
 }
 
-// Counts the edges of the entry at place p with the entries of the chain from the entry numbered `from` on that conflict with it.
-// Says which of them is endless on both sides, counted from 1, and stops there; 0 for none.
+// Counts the edges of the entry at place p with the entries of the chain from the entry numbered `from` on that conflict with it, up to
+// one that is endless on both sides; says whether there is one.
 fn row<'a>(
     previous: &'a [u16; 256],
     next: &'a [u8; 256],
@@ -73,27 +72,26 @@ fn row<'a>(
     p: usize,
     from: usize,
     worst: &mut [u8; 256],
-) -> usize
+) -> bool
     requires { ⌜ RowAsked (now previous) (now next) p from (now worst) ⌝ }
     ensures { λ r. ⌜ RowCounted (now (previous .entry)) (now (next .entry)) (now (conflicts .entry)) (now (backs .entry)) (now (forwards .entry)) p from (now (worst .entry)) r (now (worst .exit)) ⌝ }
 {
     let set = conflicts[p % Coder::INPUTS];
     let mut y = from;
     while 0 < y {
-        let here = y;
         let q = y - 1;
         y = wide(previous[q]);
         if has(set, q % Coder::INPUTS) {
             if count(next, backs, forwards, p, q, worst) {
-                return here;
+                return true;
             }
         }
     }
-    0
+    false
 }
 
-// Counts all conflicting edges, word i of `conflicts` holding the letters that conflict with i, or finds one that is endless on both
-// sides; its x is 0 where there is none.
+// Counts the conflicting edges, word i of `conflicts` holding the letters that conflict with i, up to one that is endless on both sides;
+// says whether there is one.
 pub fn count_edges<'a>(
     c: Coder,
     last: &'a [u16; 64],
@@ -102,7 +100,7 @@ pub fn count_edges<'a>(
     backs: &'a [[u8; 16]; 16],
     forwards: &'a [[u8; 16]; 16],
     worst: &mut [u8; 256],
-) -> Edge
+) -> bool
     requires { ⌜ ConflictsAsked c (now last) (now previous) (now worst) ⌝ }
     ensures { λ r. ⌜ ConflictsDone c (now (conflicts .entry)) (now (backs .entry)) (now (forwards .entry)) (now (worst .entry)) r (now (worst .exit)) ⌝ }
 {
@@ -115,7 +113,7 @@ pub fn count_edges<'a>(
         if place % Coder::INPUTS < inputs {
             let o = number(c.output[place]);
             let from = wide(last[o]);
-            let y = row(
+            let endless = row(
                 previous,
                 &c.next,
                 conflicts,
@@ -125,12 +123,12 @@ pub fn count_edges<'a>(
                 from,
                 worst,
             );
-            if y != 0 {
-                return Edge { x: p, y };
+            if endless {
+                return endless;
             }
         }
     }
-    Edge { x: 0, y: 0 }
+    false
 }
 
 // The letters before that each lookahead needs: the most that the table has past it.

@@ -1,7 +1,7 @@
 -- From what the parts of the search do to what its verdict says.
 use mathlib.Core.Path.{_≡_, refl}
 use mathlib.Core.List.{List}
-use Prim.Native.Nat.{ℕ, _-_, _*_, _<_}
+use Prim.Native.Nat.{ℕ, _*_, _<_}
 use native.Mathlib.Nat.{mul-le-mul}
 use native.Mathlib.Omega.{arith}
 use lib.ListN.{getD, replicate}
@@ -14,7 +14,7 @@ use Rattle.coder.specs.declared.inner.tables.Coder.{Coder}
 use Rattle.coder.specs.Limits.{maxSide}
 use Rattle.product.specs.Depth.{endless, Depths}
 use Rattle.product.specs.Rounds.{StartIn}
-use Rattle.product.specs.declared.inner.Edge.{Edge}
+use mathlib.Core.Bool.{Bool, true, false}
 use Rattle.coder.proofs.Fill.{getD-zeros}
 use Rattle.least.specs.Need.{EachCounted, ConflictsDone, Needs, Chosen}
 use Rattle.values.specs.Pair.{pairOf}
@@ -36,11 +36,11 @@ module _ (c : Coder) (starts : ℕ) (conflicts : List ℕ) (sound : Sound c)
     (closed : Closed (worded (machineOfCoder c) starts conflicts)) {backs forwards : List (List ℕ)}
     (found-back : Depths (machineOfCoder c) (StartIn (c .states) starts) back backs)
     (found-forward : Depths (machineOfCoder c) (StartIn (c .states) starts) forward forwards)
-    {e : Edge} {worst : List ℕ} (done : ConflictsDone c conflicts backs forwards (replicate 256 0) e worst) where
+    {r : Bool} {worst : List ℕ} (done : ConflictsDone c conflicts backs forwards (replicate 256 0) r worst) where
   abbrev S : Setting
   S = worded (machineOfCoder c) starts conflicts
 
-  module _ (none : e .x ≡ 0) (need : List ℕ) (needs : Needs worst need) where
+  module _ (none : r ≡ false) (need : List ℕ) (needs : Needs worst need) where
     pub choose-asked : getD need maxSide 0 < endless
     choose-asked =
         need-finite c starts conflicts sound backs forwards found-back found-forward worst need (done .none none)
@@ -57,16 +57,15 @@ module _ (c : Coder) (starts : ℕ) (conflicts : List ℕ) (sound : Sound c)
         (w .after) l in
         record { least = l; before-small = s .0; after-small = s .1; stays = refl }
 
-  module _ (some : 0 < e .x) where
-    -- a conflicting edge that is endless on both sides gives a valid pair
-    pub some-valid : SomeValid S
-    some-valid =
-        let n = c .states in
-        let q =
-        endless-valid S closed (λ s p. p .0)
-        (endless-edge c starts conflicts sound backs forwards found-back found-forward (e .x - 1) (e .y - 1)
-        (done .some some) (n * n) (n * n)) in
-        record { pair = q .0; valid = q .1; few = omega (arith, q .2, mul-le-mul (sound .states-high) (sound .states-high)) }
+  -- a conflicting edge that is endless on both sides gives a valid pair
+  pub some-valid : r ≡ true → SomeValid S
+  some-valid z =
+      let n = c .states in
+      let e = done .some z in
+      let q =
+      endless-valid S closed (λ s p. p .0)
+      (endless-edge c starts conflicts sound backs forwards found-back found-forward (e .0) (e .1) (e .2) (n * n) (n * n)) in
+      record { pair = q .0; valid = q .1; few = omega (arith, q .2, mul-le-mul (sound .states-high) (sound .states-high)) }
 
   pub pair-says :
       (R : Relation) (p : LoopedPair) (letters after : List ℕ) → FoundPair c starts conflicts p letters after →

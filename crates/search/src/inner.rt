@@ -44,7 +44,7 @@ pub fn verdict(
     let forwards = product::inner::forward(c, starts);
     let chain = chains::inner::by_key(&c.output, states, inputs);
     let mut worst = [0u8; 256];
-    let e = least::inner::count_edges(
+    let endless = least::inner::count_edges(
         c,
         &chain.last,
         &chain.previous,
@@ -53,12 +53,11 @@ pub fn verdict(
         &forwards,
         &mut worst,
     );
-    let x = e.x;
-    if x == 0 {
-        let need = least::inner::needs(&worst);
-        return Verdict::Least(least::inner::choose(order, &need));
+    if endless {
+        return Verdict::NoDecoder(loops::inner::find::find(c, starts, conflicts, letters));
     }
-    Verdict::NoDecoder(loops::inner::find::find(c, starts, conflicts, letters))
+    let need = least::inner::needs(&worst);
+    Verdict::Least(least::inner::choose(order, &need))
 }
 
 // The verdict on a file that is not refused, the window being the least in the order.

@@ -1,5 +1,4 @@
 -- `count_edges` meets its contract. The edges of the entries below place p are counted.
-use native.Mathlib.Numerals.{add-one}
 use Rattle.coder.specs.Table.{Sound}
 use Prim.Native.Nat.{_≤_, _-_}
 use denote.Ref.{now}
@@ -69,7 +68,7 @@ returns : tie.Need-returns Inv-loop μ-loop
 returns c =
     let w = c .before .before .before .before .before in
     let sound = start w .pre .sound in
-    rows-found _ _ _ _ sound (turn w .loop .inv .1 sound) (c .before .row .ensures _ (row-here w)) (add-one _) (omega (arith, c .if2 .taken))
+    rows-found _ _ _ _ sound (turn w .loop .inv .1 sound) (c .before .row .ensures _ (row-here w)) (c .if2 .taken)
 
 loop-less : tie.Need-loop-less Inv-loop μ-loop
 loop-less c = omega arith
@@ -79,7 +78,7 @@ loop-again c = (
   omega arith,
   λ s.
       let w = c .before .before .before .before .before in
-      rows-more _ _ _ _ s (turn w .loop .inv .1 s) (c .before .row .ensures _ (row-here w)) (omega (arith, c .if2 .left)),
+      rows-more _ _ _ _ s (turn w .loop .inv .1 s) (c .before .row .ensures _ (row-here w)) (c .if2 .left),
 )
 
 loop-less-2 : tie.Need-loop-less-2 Inv-loop μ-loop

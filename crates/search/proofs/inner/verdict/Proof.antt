@@ -4,7 +4,6 @@ use Rattle.search.proofs.Verdicts.{choose-asked, window-says, some-vali
 use Rattle.values.specs.Order.{relationOf}
 use Rattle.values.proofs.Orders.{is-order}
 use borrow.Author.Needs.{needs}
-use native.Mathlib.Omega.{arith}
 use Rattle.search.proofs.inner.verdict.Statement.{statement}
 use Rattle.search.proofs.inner.verdict.Tie as tie
 
@@ -20,9 +19,6 @@ by-key-requires c κs = output-keys _ (c .before .before .before .before .before
 count-edges-requires : tie.Need-count-edges-requires
 count-edges-requires c κs = search needs
 
-needs-requires : tie.Need-needs-requires
-needs-requires c κs = search needs
-
 -- what was done before, seen from the end of `count_edges`: the two calls for the depths, and the start of the call
 abbrev forwarded : tie.After-count-edges → tie.After-forward
 forwarded d = d .before .before .before .before .before .before .before .before .before .before
@@ -33,41 +29,43 @@ backed d = forwarded d .before
 abbrev start : tie.After-count-edges → tie.Start
 start d = backed d .before .before
 
-choose-requires : tie.Need-choose-requires
-choose-requires c κs =
-    let d = c .before .before .before .before in
-    let p = start d .pre in
-    choose-asked _ _ _ (p .0) (p .1) (backed d .back .ensures) (forwarded d .forward .ensures) (d .count-edges .ensures) (omega arith)
-    (c .before .needs .result) (c .before .needs .ensures)
-
-returns : tie.Need-returns
-returns c =
-    let d = c .before .before .before .before .before in
-    let p = start d .pre in
-    window-says _ _ _ (p .0) (p .1) (backed d .back .ensures) (forwarded d .forward .ensures) (d .count-edges .ensures) (omega arith)
-    (c .before .before .needs .result) (c .before .before .needs .ensures) (is-order (start d .args .order)) _ _ (c .choose .ensures)
-
 find-requires : tie.Need-find-requires
 find-requires c κs =
     let d = c .before .before in
     let p = start d .pre in
     record {
       sound = p .0;
-      some = some-valid _ _ _ (p .0) (p .1) (backed d .back .ensures) (forwarded d .forward .ensures) (d .count-edges .ensures) (omega arith);
+      some = some-valid _ _ _ (p .0) (p .1) (backed d .back .ensures) (forwarded d .forward .ensures) (d .count-edges .ensures) (c .before .if1 .taken);
       room = p .2;
     }
 
 same-length : tie.Need-same-length
 same-length c = search needs
 
+returns : tie.Need-returns
+returns c =
+    let d = c .before .before .before .before .before in
+    let p = start d .pre in
+    pair-says _ _ _ (p .0) (p .1) (backed d .back .ensures) (forwarded d .forward .ensures) (d .count-edges .ensures)
+    (relationOf (start d .args .order)) _ _ _ (c .before .before .find .ensures)
+
+needs-requires : tie.Need-needs-requires
+needs-requires c κs = search needs
+
+choose-requires : tie.Need-choose-requires
+choose-requires c κs =
+    let d = c .before .before .before .before in
+    let p = start d .pre in
+    choose-asked _ _ _ (p .0) (p .1) (backed d .back .ensures) (forwarded d .forward .ensures) (d .count-edges .ensures)
+    (c .before .before .before .if1 .left) (c .before .needs .result) (c .before .needs .ensures)
+
 returns-2 : tie.Need-returns-2
 returns-2 c =
     let d = c .before .before .before .before .before in
     let p = start d .pre in
-    let back = backed d .back .ensures in
-    let forward = forwarded d .forward .ensures in
-    let found = d .count-edges .ensures in
-    pair-says _ _ _ (p .0) (p .1) back forward found (relationOf (start d .args .order)) _ _ _ (c .before .before .find .ensures)
+    window-says _ _ _ (p .0) (p .1) (backed d .back .ensures) (forwarded d .forward .ensures) (d .count-edges .ensures)
+    (c .before .before .before .before .if1 .left) (c .before .before .needs .result) (c .before .before .needs .ensures)
+    (is-order (start d .args .order)) _ _ (c .choose .ensures)
 
 pub verdict-spec : {M : Type 1} → statement M
 verdict-spec =
@@ -77,9 +75,9 @@ verdict-spec =
     forward-requires
     by-key-requires
     count-edges-requires
-    needs-requires
-    choose-requires
-    returns
     find-requires
     same-length
+    returns
+    needs-requires
+    choose-requires
     returns-2)
