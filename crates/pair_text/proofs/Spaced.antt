@@ -9,9 +9,9 @@ use lib.ListN.{length, getD, take, drop, length-append}
 use lib.Seq.{take-suc, take-add}
 use Rattle.text.specs.Ascii.{space}
 use Rattle.text.specs.Decimal.{decimal}
-use Rattle.text.specs.Placed.{Placed}
+use Rattle.placing.specs.Placed.{Placed}
 use Rattle.text.proofs.Decimals.{decimal-short}
-use Rattle.text.proofs.Placing.{written-none, written-then}
+use Rattle.placing.proofs.Placing.{written-none, written-then}
 use Rattle.pair_text.specs.Lines.{spaced}
 
 pub spaced-append : (xs ys : List ℕ) → spaced (xs ++ ys) ≡ spaced xs ++ spaced ys

@@ -3,10 +3,10 @@
 ghost use mathlib.Core.List.{[], _∷_};
 ghost use Prim.Native.Nat.{_+_, _*_, _≤_};
 ghost use lib.ListN.{length, take};
-ghost use Rattle.text.specs.Placed.{Placed};
+ghost use Rattle.placing.specs.Placed.{Placed};
 ghost use Rattle.values.specs.Pair.{pairOf};
 ghost use Rattle.pair_text.specs.Lines.{spaced, pairLine, lettersLine, pairText, PairAsked};
-use text::inner::word;
+use placing::inner::put;
 use text::inner::word_number;
 use values::LoopedPair;
 
@@ -24,11 +24,11 @@ fn pair_line(out: &mut [u8], at: usize, p: LoopedPair) -> usize
     requires { ⌜ at + length (pairLine (pairOf p [])) ≤ length (now out) ⌝ }
     ensures { λ r. ⌜ Placed (now (out .entry)) at (pairLine (pairOf p [])) (now (out .exit)) r ⌝ }
 {
-    let a = word(out, at, b"pair");
+    let a = put(out, at, b"pair");
     let b = two(out, a, p.s, p.t);
     let c = two(out, b, p.back_loop, p.lead_in);
     let d = two(out, c, p.lead_out, p.forward_loop);
-    word(out, d, b"\n")
+    put(out, d, b"\n")
 }
 
 // The line of the first n letters of a buffer, two bytes each: the first run's, then the second's.
@@ -36,7 +36,7 @@ fn letters_line(out: &mut [u8], at: usize, letters: &[u8], n: usize) -> usize
     requires { ⌜ (2 * n ≤ length (now letters)) × (at + length (lettersLine (take (2 * n) (now letters))) ≤ length (now out)) ⌝ }
     ensures { λ r. ⌜ Placed (now (out .entry)) at (lettersLine (take (2 * n) (now (letters .entry)))) (now (out .exit)) r ⌝ }
 {
-    let mut next = word(out, at, b"letters");
+    let mut next = put(out, at, b"letters");
     let mut i = 0;
     while i < n {
         let x = letters[2 * i] as usize;
@@ -44,7 +44,7 @@ fn letters_line(out: &mut [u8], at: usize, letters: &[u8], n: usize) -> usize
         next = two(out, next, x, y);
         i += 1;
     }
-    word(out, next, b"\n")
+    put(out, next, b"\n")
 }
 
 // All lines, on the pair whose letters lie in the buffer `letters`.
@@ -53,7 +53,7 @@ pub fn no_decoder(out: &mut [u8], at: usize, p: LoopedPair, letters: &[u8]) -> u
     ensures { λ r. ⌜ Placed (now (out .entry)) at (pairText (pairOf p (now (letters .entry)))) (now (out .exit)) r ⌝ }
 {
     let n = p.back_loop + p.lead_in + 1 + p.lead_out + p.forward_loop;
-    let a = word(out, at, b"no decoder\n");
+    let a = put(out, at, b"no decoder\n");
     let b = pair_line(out, a, p);
     letters_line(out, b, letters, n)
 }

@@ -4,7 +4,7 @@ use mathlib.Core.List.{List}
 use Prim.Native.Nat.{ℕ, zero, suc}
 use native.Mathlib.Omega.{arith}
 use lib.ListN.{length, getD, take, replicate}
-use Rattle.text.proofs.Placing.{front-text, written-length, written-past}
+use Rattle.placing.proofs.Placing.{front-text, written-length, written-past}
 use Rattle.report_text.specs.Report.{ReportPromise}
 use Rattle.report_text.specs.Text.{textBytes, Padded, ReportWritten}
 

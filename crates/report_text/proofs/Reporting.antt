@@ -25,8 +25,8 @@ use Rattle.search.specs.declared.SearchResult.the-variants.{Refused as RefusedS
 use Rattle.search.specs.declared.Verdict.{Verdict}
 use Rattle.search.proofs.Determined.{pair-short}
 use Rattle.search.specs.declared.Verdict.the-variants.{Least, NoDecoder}
-use Rattle.text.specs.Placed.{Placed}
-use Rattle.text.proofs.Placing.{written-then}
+use Rattle.placing.specs.Placed.{Placed}
+use Rattle.placing.proofs.Placing.{written-then}
 use Rattle.pair_text.specs.Lines.{pairText, pairBytes, PairAsked}
 use Rattle.pair_text.proofs.Lengths.{text-short}
 use Rattle.report_text.specs.Text.{VerdictWritten, ReportWritten}

@@ -4,7 +4,7 @@ use mathlib.Core.Path.{_≡_}
 use mathlib.Core.List.{List}
 use lib.ListN.{length, getD, take}
 use Rattle.mealy.specs.Setting.{Setting}
-use Rattle.text.specs.Placed.{Placed}
+use Rattle.placing.specs.Placed.{Placed}
 use Rattle.pair_text.specs.Lines.{pairBytes}
 use Rattle.report_text.specs.Report.{VerdictLines, ReportPromise}
 use Rattle.report_text.specs.declared.Text.{Text}

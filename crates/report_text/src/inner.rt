@@ -5,11 +5,11 @@ ghost use lib.ListN.{length, getD};
 ghost use Rattle.coder.specs.File.{fileRefusal, settingOf};
 ghost use Rattle.search.specs.Search.{wanted};
 ghost use Rattle.pair_text.specs.Lines.{pairBytes};
-ghost use Rattle.text.specs.Placed.{Placed};
+ghost use Rattle.placing.specs.Placed.{Placed};
 ghost use Rattle.report_text.specs.Report.{refusedText, coderLine, windowLine};
 ghost use Rattle.report_text.specs.Text.{textBytes, VerdictWritten, ReportWritten};
 use pair_text::inner::no_decoder;
-use text::inner::word;
+use placing::inner::put;
 use text::inner::word_number;
 
 // How many bytes hold the text of any report.
@@ -28,7 +28,7 @@ fn refused(out: &mut [u8], k: usize) -> usize
     ensures { λ r. ⌜ Placed (now (out .entry)) 0 (refusedText k) (now (out .exit)) r ⌝ }
 {
     let a = word_number(out, 0, b"refused ", k);
-    word(out, a, b"\n")
+    put(out, a, b"\n")
 }
 
 // The first line on an accepted file.
@@ -40,7 +40,7 @@ fn coder_line(out: &mut [u8], states: usize, inputs: usize, outputs: usize) -> u
     let a = word_number(out, 0, b"coder ", states);
     let b = word_number(out, a, b" ", inputs);
     let c = word_number(out, b, b" ", outputs);
-    word(out, c, b"\n")
+    put(out, c, b"\n")
 }
 
 // The line of a window.
@@ -50,7 +50,7 @@ fn window_line(out: &mut [u8], at: usize, before: usize, after: usize) -> usize
 {
     let a = word_number(out, at, b"window ", before);
     let b = word_number(out, a, b" ", after);
-    word(out, b, b"\n")
+    put(out, b, b"\n")
 }
 
 // The bytes that the search wants.

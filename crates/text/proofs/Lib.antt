@@ -1,4 +1,3 @@
 -- The laws of text in a lent buffer.
 pub mod Decimals
-pub mod Placing
 pub mod Examples

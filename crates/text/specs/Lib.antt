@@ -1,4 +1,3 @@
 -- What the contracts of text in a lent buffer cite.
 pub mod Ascii
 pub mod Decimal
-pub mod Placed

@@ -2,34 +2,10 @@
 ghost use mathlib.Core.List.{_++_};
 ghost use Prim.Native.Nat.{_+_, _-_, _≤_};
 ghost use lib.ListN.{length, replicate};
+ghost use Rattle.placing.specs.Placed.{Placed};
 ghost use Rattle.text.specs.Decimal.{decimal, paddedTo};
-ghost use Rattle.text.specs.Placed.{Placed};
-
-// A word.
-pub fn word(out: &mut [u8], at: usize, bytes: &[u8]) -> usize
-    requires { ⌜ at + length (now bytes) ≤ length (now out) ⌝ }
-    ensures { λ r. ⌜ Placed (now (out .entry)) at (now (bytes .entry)) (now (out .exit)) r ⌝ }
-{
-    let mut i = 0;
-    while i < bytes.len() {
-        out[at + i] = bytes[i];
-        i += 1;
-    }
-    at + i
-}
-
-// The same byte up to the place `end`; nothing where that is not above `at`.
-fn fill(out: &mut [u8], at: usize, end: usize, byte: u8) -> usize
-    requires { ⌜ end ≤ length (now out) ⌝ }
-    ensures { λ r. ⌜ Placed (now (out .entry)) at (replicate (end - at) byte) (now (out .exit)) r ⌝ }
-{
-    let mut i = at;
-    while i < end {
-        out[i] = byte;
-        i += 1;
-    }
-    i
-}
+use placing::inner::fill;
+use placing::inner::put;
 
 // Spaces to a column, which is a place of the buffer.
 pub fn spaces(out: &mut [u8], at: usize, column: usize) -> usize
@@ -46,7 +22,7 @@ pub fn number(out: &mut [u8], at: usize, n: usize) -> usize
 {
     let mut digits = [0u8; 20];
     let k = io::decimal(n as u64, &mut digits);
-    word(out, at, &digits[..k])
+    put(out, at, &digits[..k])
 }
 
 // A word, and a number behind it.
@@ -54,7 +30,7 @@ pub fn word_number(out: &mut [u8], at: usize, bytes: &[u8], n: usize) -> usize
     requires { ⌜ at + length (now bytes) + length (decimal n) ≤ length (now out) ⌝ }
     ensures { λ r. ⌜ Placed (now (out .entry)) at (now (bytes .entry) ++ decimal n) (now (out .exit)) r ⌝ }
 {
-    let next = word(out, at, bytes);
+    let next = put(out, at, bytes);
     number(out, next, n)
 }
 
@@ -66,5 +42,5 @@ pub fn padded(out: &mut [u8], at: usize, n: usize, width: usize, pad: u8) -> usi
     let mut digits = [0u8; 20];
     let k = io::decimal(n as u64, &mut digits);
     let first = fill(out, at, at + width - k, pad);
-    word(out, first, &digits[..k])
+    put(out, first, &digits[..k])
 }

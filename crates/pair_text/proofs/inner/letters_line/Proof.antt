@@ -2,8 +2,8 @@
 use mathlib.Core.Path.{_≡_}
 use Prim.Native.Nat.{_+_, _*_, _-_, _<_, _≤_}
 use lib.ListN.{length, take}
-use Rattle.text.specs.Placed.{Placed}
-use Rattle.text.proofs.Placing.{written-then}
+use Rattle.placing.specs.Placed.{Placed}
+use Rattle.placing.proofs.Placing.{written-then}
 use Rattle.pair_text.specs.Lines.{spaced}
 use Rattle.pair_text.proofs.Spaced.{spaced-none, spaced-more, spaced-all, two-length, room-more}
 use Rattle.pair_text.proofs.Lengths.{letters-length}
@@ -19,11 +19,11 @@ Inv-loop out₀ at letters n next₀ i₀ t10 out next i =
 abbrev μ-loop : tie.MeasureT-loop
 μ-loop out₀ at letters n next₀ i₀ t10 out next i = n - i
 
-slice-aggregate-word : tie.Need-slice-aggregate-word Inv-loop μ-loop
-slice-aggregate-word c = search needs
+slice-aggregate-put : tie.Need-slice-aggregate-put Inv-loop μ-loop
+slice-aggregate-put c = search needs
 
-word-requires : tie.Need-word-requires Inv-loop μ-loop
-word-requires c κs =
+put-requires : tie.Need-put-requires Inv-loop μ-loop
+put-requires c κs =
     let s = c .before .before .before .before in
     omega (arith, letters-length (take (2 * s .args .n) (s .args .letters .now)), s .pre .1)
 
@@ -62,8 +62,8 @@ two-requires c κs =
       room-more letters (l .loop .i) (s .args .n) (c .before .before .before .loop-test .taken) (s .pre .0),
       letters-length (take (2 * s .args .n) letters),
       s .pre .1,
-      w .word .kept .0,
-      w .word .ensures .end,
+      w .put .kept .0,
+      w .put .ensures .end,
       l .loop .inv .1,
       l .loop .inv .2 .end,
     ))
@@ -83,11 +83,11 @@ loop-again c =
     let m : 2 * i + 1 < length (s .args .letters .now) = omega (arith, s .pre .0, t .before .before .before .before .loop-test .taken) in
     (search needs, search needs, spaced-more (s .args .letters .now) i m (l .loop .inv .2) (t .two .ensures))
 
-slice-aggregate-word-2 : tie.Need-slice-aggregate-word-2 Inv-loop μ-loop
-slice-aggregate-word-2 c = search needs
+slice-aggregate-put-2 : tie.Need-slice-aggregate-put-2 Inv-loop μ-loop
+slice-aggregate-put-2 c = search needs
 
-word-requires-2 : tie.Need-word-requires-2 Inv-loop μ-loop
-word-requires-2 c κs =
+put-requires-2 : tie.Need-put-requires-2 Inv-loop μ-loop
+put-requires-2 c κs =
     let l = c .before .before .before in
     let w = l .before .before .before in
     let s = w .before .before .before .before .before in
@@ -96,8 +96,8 @@ word-requires-2 c κs =
       arith,
       letters-length (take (2 * s .args .n) (s .args .letters .now)),
       s .pre .1,
-      w .word .kept .0,
-      w .word .ensures .end,
+      w .put .kept .0,
+      w .put .ensures .end,
       l .loop .inv .1,
       all .end,
     )
@@ -113,7 +113,7 @@ returns c =
     let w = l .before .before .before in
     let s = w .before .before .before .before .before in
     let all = spaced-all (s .args .letters .now) _ _ (l .loop .inv .0) (a .loop-test .left) (l .loop .inv .2) in
-    written-then (written-then (w .word .ensures) all) (w₂ .word2 .ensures)
+    written-then (written-then (w .put .ensures) all) (w₂ .put2 .ensures)
 
 pub letters-line-spec : {M : Type 1} → statement M
 letters-line-spec =
@@ -121,8 +121,8 @@ letters-line-spec =
     (tie.spec
     Inv-loop
     μ-loop
-    slice-aggregate-word
-    word-requires
+    slice-aggregate-put
+    put-requires
     loop-holds
     mul-x
     shared-slice-read-x
@@ -135,7 +135,7 @@ letters-line-spec =
     add-i
     loop-less
     loop-again
-    slice-aggregate-word-2
-    word-requires-2
+    slice-aggregate-put-2
+    put-requires-2
     same-length
     returns)

@@ -1,6 +1,6 @@
 -- `no_decoder` meets its contract.
 use Rattle.values.specs.Pair.{pairOf}
-use Rattle.text.proofs.Placing.{written-then}
+use Rattle.placing.proofs.Placing.{written-then}
 use Rattle.pair_text.proofs.Lengths.{text-length}
 use borrow.Author.Needs.{needs}
 use native.Mathlib.Omega.{arith}
@@ -8,7 +8,7 @@ use Rattle.pair_text.proofs.inner.no_decoder.Statement.{statement}
 use Rattle.pair_text.proofs.inner.no_decoder.Tie as tie
 
 -- the function's entry
-abbrev start : tie.After-word → tie.Start
+abbrev start : tie.After-put → tie.Start
 start w = w .before .before .before .before .before .before .before .before
 
 add-n : tie.Need-add-n
@@ -23,17 +23,17 @@ add-n-3 c = search needs
 add-n-4 : tie.Need-add-n-4
 add-n-4 c = search needs
 
-slice-aggregate-word : tie.Need-slice-aggregate-word
-slice-aggregate-word c = search needs
+slice-aggregate-put : tie.Need-slice-aggregate-put
+slice-aggregate-put c = search needs
 
-word-requires : tie.Need-word-requires
-word-requires c κs = search needs
+put-requires : tie.Need-put-requires
+put-requires c κs = search needs
 
 pair-line-requires : tie.Need-pair-line-requires
 pair-line-requires c κs =
     let w = c .before .before .before in
     let s = start w in
-    omega (arith, text-length (pairOf (s .args .p) (s .args .letters .now)), s .pre .room, w .word .kept .0, w .word .ensures .end)
+    omega (arith, text-length (pairOf (s .args .p) (s .args .letters .now)), s .pre .room, w .put .kept .0, w .put .ensures .end)
 
 letters-line-requires : tie.Need-letters-line-requires
 letters-line-requires c κs =
@@ -45,8 +45,8 @@ letters-line-requires c κs =
         arith,
         text-length (pairOf (s .args .p) (s .args .letters .now)),
         s .pre .room,
-        w .word .kept .0,
-        w .word .ensures .end,
+        w .put .kept .0,
+        w .put .ensures .end,
         a .pair-line .kept .0,
         a .pair-line .ensures .end,
       ),
@@ -60,7 +60,7 @@ returns c =
     let l = c .before .before in
     let a = l .before .before .before .before in
     let w = a .before .before .before .before in
-    written-then (written-then (w .word .ensures) (a .pair-line .ensures)) (l .letters-line .ensures)
+    written-then (written-then (w .put .ensures) (a .pair-line .ensures)) (l .letters-line .ensures)
 
 pub no-decoder-spec : {M : Type 1} → statement M
 no-decoder-spec =
@@ -70,8 +70,8 @@ no-decoder-spec =
     add-n-2
     add-n-3
     add-n-4
-    slice-aggregate-word
-    word-requires
+    slice-aggregate-put
+    put-requires
     pair-line-requires
     letters-line-requires
     same-length

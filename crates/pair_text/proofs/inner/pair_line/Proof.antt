@@ -1,7 +1,7 @@
 -- `pair_line` meets its contract.
 use mathlib.Core.List.{[], _∷_}
 use Rattle.values.specs.Pair.{pairOf}
-use Rattle.text.proofs.Placing.{written-then}
+use Rattle.placing.proofs.Placing.{written-then}
 use Rattle.pair_text.proofs.Spaced.{two-length, spaced-then}
 use Rattle.pair_text.proofs.Lengths.{pair-length}
 use borrow.Author.Needs.{needs}
@@ -9,11 +9,11 @@ use native.Mathlib.Omega.{arith}
 use Rattle.pair_text.proofs.inner.pair_line.Statement.{statement}
 use Rattle.pair_text.proofs.inner.pair_line.Tie as tie
 
-slice-aggregate-word : tie.Need-slice-aggregate-word
-slice-aggregate-word c = search needs
+slice-aggregate-put : tie.Need-slice-aggregate-put
+slice-aggregate-put c = search needs
 
-word-requires : tie.Need-word-requires
-word-requires c κs =
+put-requires : tie.Need-put-requires
+put-requires c κs =
     let s = c .before .before .before in
     omega (arith, pair-length (pairOf (s .args .p) []), s .pre)
 
@@ -21,7 +21,7 @@ two-requires : tie.Need-two-requires
 two-requires c κs =
     let w = c .before .before .before in
     let s = w .before .before .before .before in
-    simp two-length (omega (arith, pair-length (pairOf (s .args .p) []), s .pre, w .word .kept .0, w .word .ensures .end))
+    simp two-length (omega (arith, pair-length (pairOf (s .args .p) []), s .pre, w .put .kept .0, w .put .ensures .end))
 
 two-requires-2 : tie.Need-two-requires-2
 two-requires-2 c κs =
@@ -32,8 +32,8 @@ two-requires-2 c κs =
       arith,
       pair-length (pairOf (s .args .p) []),
       s .pre,
-      w .word .kept .0,
-      w .word .ensures .end,
+      w .put .kept .0,
+      w .put .ensures .end,
       t₁ .two .kept .0,
       simp two-length at (t₁ .two .ensures .end),
     ))
@@ -48,19 +48,19 @@ two-requires-3 c κs =
       arith,
       pair-length (pairOf (s .args .p) []),
       s .pre,
-      w .word .kept .0,
-      w .word .ensures .end,
+      w .put .kept .0,
+      w .put .ensures .end,
       t₁ .two .kept .0,
       simp two-length at (t₁ .two .ensures .end),
       t₂ .two2 .kept .0,
       simp two-length at (t₂ .two2 .ensures .end),
     ))
 
-slice-aggregate-word-2 : tie.Need-slice-aggregate-word-2
-slice-aggregate-word-2 c = search needs
+slice-aggregate-put-2 : tie.Need-slice-aggregate-put-2
+slice-aggregate-put-2 c = search needs
 
-word-requires-2 : tie.Need-word-requires-2
-word-requires-2 c κs =
+put-requires-2 : tie.Need-put-requires-2
+put-requires-2 c κs =
     let t₃ = c .before .before .before .before in
     let t₂ = t₃ .before .before .before .before in
     let t₁ = t₂ .before .before .before .before in
@@ -70,8 +70,8 @@ word-requires-2 c κs =
       arith,
       pair-length (pairOf (s .args .p) []),
       s .pre,
-      w .word .kept .0,
-      w .word .ensures .end,
+      w .put .kept .0,
+      w .put .ensures .end,
       t₁ .two .kept .0,
       simp two-length at (t₁ .two .ensures .end),
       t₂ .two2 .kept .0,
@@ -95,18 +95,18 @@ returns c =
     spaced-then (p .s ∷ p .t ∷ []) (p .«back_loop» ∷ p .«lead_in» ∷ []) (t₁ .two .ensures) (t₂ .two2 .ensures) in
     let six =
     spaced-then (p .s ∷ p .t ∷ p .«back_loop» ∷ p .«lead_in» ∷ []) (p .«lead_out» ∷ p .«forward_loop» ∷ []) four (t₃ .two3 .ensures) in
-    written-then (written-then (w .word .ensures) six) (w₂ .word2 .ensures)
+    written-then (written-then (w .put .ensures) six) (w₂ .put2 .ensures)
 
 pub pair-line-spec : {M : Type 1} → statement M
 pair-line-spec =
     tie.close
     (tie.spec
-    slice-aggregate-word
-    word-requires
+    slice-aggregate-put
+    put-requires
     two-requires
     two-requires-2
     two-requires-3
-    slice-aggregate-word-2
-    word-requires-2
+    slice-aggregate-put-2
+    put-requires-2
     same-length
     returns)

@@ -1,5 +1,5 @@
 -- `coder_line` meets its contract.
-use Rattle.text.proofs.Placing.{written-then, written-both}
+use Rattle.placing.proofs.Placing.{written-then, written-both}
 use Rattle.text.specs.Ascii.{space}
 use Rattle.text.proofs.Decimals.{three-digits}
 use Rattle.report_text.proofs.Lengths.{coder-length}
@@ -52,11 +52,11 @@ word-number-requires-3 c κs =
       n₂ .word-number2 .ensures .end,
     )
 
-slice-aggregate-word : tie.Need-slice-aggregate-word
-slice-aggregate-word c = search needs
+slice-aggregate-put : tie.Need-slice-aggregate-put
+slice-aggregate-put c = search needs
 
-word-requires : tie.Need-word-requires
-word-requires c κs =
+put-requires : tie.Need-put-requires
+put-requires c κs =
     let n₃ = c .before .before .before .before in
     let n₂ = n₃ .before .before .before .before .before in
     let n₁ = n₂ .before .before .before .before .before in
@@ -86,7 +86,7 @@ returns c =
     let n₁ = n₂ .before .before .before .before .before in
     let second = written-both space _ (n₁ .word-number .ensures) (n₂ .word-number2 .ensures) in
     let third = written-both space _ second (n₃ .word-number3 .ensures) in
-    let line = written-then third (w .word .ensures) in
+    let line = written-then third (w .put .ensures) in
     let s = n₁ .before .before .before .before in
     let l = coder-length (s .args .states) (s .args .inputs) (s .args .outputs) (s .pre .0) (s .pre .1) (s .pre .2) in
     (line, omega (arith, line .end, l))
@@ -101,7 +101,7 @@ coder-line-spec =
     word-number-requires-2
     slice-aggregate-word-number-3
     word-number-requires-3
-    slice-aggregate-word
-    word-requires
+    slice-aggregate-put
+    put-requires
     same-length
     returns)

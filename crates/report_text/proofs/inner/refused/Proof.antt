@@ -1,5 +1,5 @@
 -- `refused` meets its contract.
-use Rattle.text.proofs.Placing.{written-then}
+use Rattle.placing.proofs.Placing.{written-then}
 use Rattle.text.proofs.Decimals.{three-digits}
 use borrow.Author.Needs.{needs}
 use native.Mathlib.Omega.{arith}
@@ -14,11 +14,11 @@ word-number-requires c κs =
     let s = c .before .before .before in
     omega (arith, three-digits (s .args .k) (s .pre .0), s .pre .1)
 
-slice-aggregate-word : tie.Need-slice-aggregate-word
-slice-aggregate-word c = search needs
+slice-aggregate-put : tie.Need-slice-aggregate-put
+slice-aggregate-put c = search needs
 
-word-requires : tie.Need-word-requires
-word-requires c κs =
+put-requires : tie.Need-put-requires
+put-requires c κs =
     let n = c .before .before .before .before in
     let s = n .before .before .before .before in
     omega (arith, three-digits (s .args .k) (s .pre .0), s .pre .1, n .word-number .kept .0, n .word-number .ensures .end)
@@ -29,7 +29,7 @@ same-length c = search needs
 returns : tie.Need-returns
 returns c =
     let w = c .before .before in
-    written-then (w .before .before .before .before .before .word-number .ensures) (w .word .ensures)
+    written-then (w .before .before .before .before .before .word-number .ensures) (w .put .ensures)
 
 pub refused-spec : {M : Type 1} → statement M
 refused-spec =
@@ -37,7 +37,7 @@ refused-spec =
     (tie.spec
     slice-aggregate-word-number
     word-number-requires
-    slice-aggregate-word
-    word-requires
+    slice-aggregate-put
+    put-requires
     same-length
     returns)

@@ -1,5 +1,5 @@
 -- `window_line` meets its contract.
-use Rattle.text.proofs.Placing.{written-then, written-both}
+use Rattle.placing.proofs.Placing.{written-then, written-both}
 use Rattle.text.specs.Ascii.{space}
 use Rattle.text.proofs.Decimals.{three-digits}
 use borrow.Author.Needs.{needs}
@@ -31,11 +31,11 @@ word-number-requires-2 c κs =
       n₁ .word-number .ensures .end,
     )
 
-slice-aggregate-word : tie.Need-slice-aggregate-word
-slice-aggregate-word c = search needs
+slice-aggregate-put : tie.Need-slice-aggregate-put
+slice-aggregate-put c = search needs
 
-word-requires : tie.Need-word-requires
-word-requires c κs =
+put-requires : tie.Need-put-requires
+put-requires c κs =
     let n₂ = c .before .before .before .before in
     let n₁ = n₂ .before .before .before .before .before in
     let s = n₁ .before .before .before .before in
@@ -58,7 +58,7 @@ returns c =
     let w = c .before .before in
     let n₂ = w .before .before .before .before .before in
     let n₁ = n₂ .before .before .before .before .before in
-    written-then (written-both space _ (n₁ .word-number .ensures) (n₂ .word-number2 .ensures)) (w .word .ensures)
+    written-then (written-both space _ (n₁ .word-number .ensures) (n₂ .word-number2 .ensures)) (w .put .ensures)
 
 pub window-line-spec : {M : Type 1} → statement M
 window-line-spec =
@@ -68,7 +68,7 @@ window-line-spec =
     word-number-requires
     slice-aggregate-word-number-2
     word-number-requires-2
-    slice-aggregate-word
-    word-requires
+    slice-aggregate-put
+    put-requires
     same-length
     returns)

@@ -11,11 +11,11 @@ decimal-requires c κs = search needs
 array-share-prefix-digits : tie.Need-array-share-prefix-digits
 array-share-prefix-digits c = search needs
 
-slice-aggregate-word : tie.Need-slice-aggregate-word
-slice-aggregate-word c = search needs
+slice-aggregate-put : tie.Need-slice-aggregate-put
+slice-aggregate-put c = search needs
 
-word-requires : tie.Need-word-requires
-word-requires c κs =
+put-requires : tie.Need-put-requires
+put-requires c κs =
     let d = c .before .before .decimal in
     let n = c .before .before .before .before .before .args .n in
     omega (arith, length-of (d .result) n (d .ensures .1 .0), d .ensures .0)
@@ -27,7 +27,7 @@ returns : tie.Need-returns
 returns c =
     let d = c .before .before .before .before .before .decimal in
     let n = c .before .before .before .before .before .before .before .before .args .n in
-    rw (decimal-of (d .result) n (d .ensures .1 .0) (d .ensures .1 .1)) at (c .before .before .word .ensures)
+    rw (decimal-of (d .result) n (d .ensures .1 .0) (d .ensures .1 .1)) at (c .before .before .put .ensures)
 
 pub number-spec : {M : Type 1} → statement M
 number-spec =
@@ -35,7 +35,7 @@ number-spec =
     (tie.spec
     decimal-requires
     array-share-prefix-digits
-    slice-aggregate-word
-    word-requires
+    slice-aggregate-put
+    put-requires
     same-length
     returns)

@@ -4,7 +4,7 @@ use Prim.Native.Nat.{_+_, _-_}
 use lib.ListN.{length}
 use Rattle.text.specs.Decimal.{decimal}
 use Rattle.text.proofs.Decimals.{decimal-of, length-of}
-use Rattle.text.proofs.Placing.{written-then, fill-all, fill-end}
+use Rattle.placing.proofs.Placing.{written-then, fill-all, fill-end}
 use borrow.Author.Needs.{needs}
 use native.Mathlib.Omega.{arith}
 use Rattle.text.proofs.inner.padded.Statement.{statement}
@@ -29,11 +29,11 @@ fill-requires c κs = search needs
 array-share-prefix-digits : tie.Need-array-share-prefix-digits
 array-share-prefix-digits c = search needs
 
-slice-aggregate-word : tie.Need-slice-aggregate-word
-slice-aggregate-word c = search needs
+slice-aggregate-put : tie.Need-slice-aggregate-put
+slice-aggregate-put c = search needs
 
-word-requires : tie.Need-word-requires
-word-requires c κs =
+put-requires : tie.Need-put-requires
+put-requires c κs =
     let f = c .before .before .before .before in
     let d = f .before .before in
     let a = d .before .before .before .args in
@@ -55,7 +55,7 @@ returns c =
     let a = d .before .before .before .args in
     let e : a .at + a .width - d .decimal .result - a .at ≡ a .width - length (decimal (a .n)) = omega (arith, few d) in
     let digits = decimal-of (d .decimal .result) (a .n) (d .decimal .ensures .1 .0) (d .decimal .ensures .1 .1) in
-    written-then (fill-all (a .pad) _ _ e (f .fill .ensures)) (rw digits at (c .before .before .word .ensures))
+    written-then (fill-all (a .pad) _ _ e (f .fill .ensures)) (rw digits at (c .before .before .put .ensures))
 
 pub padded-spec : {M : Type 1} → statement M
 padded-spec =
@@ -66,7 +66,7 @@ padded-spec =
     sub-fill
     fill-requires
     array-share-prefix-digits
-    slice-aggregate-word
-    word-requires
+    slice-aggregate-put
+    put-requires
     same-length
     returns)

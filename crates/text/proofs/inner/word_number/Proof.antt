@@ -1,11 +1,11 @@
 -- `word_number` meets its contract.
-use Rattle.text.proofs.Placing.{written-then}
+use Rattle.placing.proofs.Placing.{written-then}
 use borrow.Author.Needs.{needs}
 use Rattle.text.proofs.inner.word_number.Statement.{statement}
 use Rattle.text.proofs.inner.word_number.Tie as tie
 
-word-requires : tie.Need-word-requires
-word-requires c κs = search needs
+put-requires : tie.Need-put-requires
+put-requires c κs = search needs
 
 number-requires : tie.Need-number-requires
 number-requires c κs = search needs
@@ -16,7 +16,7 @@ same-length c = search needs
 returns : tie.Need-returns
 returns c =
     let second = c .before .before in
-    written-then (second .before .before .before .before .word .ensures) (second .number .ensures)
+    written-then (second .before .before .before .before .put .ensures) (second .number .ensures)
 
 pub word-number-spec : {M : Type 1} → statement M
-word-number-spec = tie.close (tie.spec word-requires number-requires same-length returns)
+word-number-spec = tie.close (tie.spec put-requires number-requires same-length returns)

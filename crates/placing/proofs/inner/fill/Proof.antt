@@ -2,12 +2,12 @@
 use mathlib.Core.Path.{_≡_}
 use Prim.Native.Nat.{_≤_, _-_}
 use lib.ListN.{length, replicate}
-use Rattle.text.specs.Placed.{Placed}
-use Rattle.text.proofs.Placing.{fill-none, fill-more, fill-all}
+use Rattle.placing.specs.Placed.{Placed}
+use Rattle.placing.proofs.Placing.{fill-none, fill-more, fill-all}
 use borrow.Author.Needs.{needs}
 use native.Mathlib.Omega.{arith}
-use Rattle.text.proofs.inner.fill.Statement.{statement}
-use Rattle.text.proofs.inner.fill.Tie as tie
+use Rattle.placing.proofs.inner.fill.Statement.{statement}
+use Rattle.placing.proofs.inner.fill.Tie as tie
 
 abbrev Inv-loop : tie.InvT-loop
 Inv-loop out₀ at end byte i₀ out i =

@@ -6,7 +6,7 @@ use native.Mathlib.Numerals.{add-one}
 use native.Mathlib.Omega.{arith}
 use lib.ListN.{length, getD, take, set, replicate, length-append, length-replicate, replicate-append-replicate}
 use lib.Seq.{sets, sets-eq, take-at, take-suc, take-length, length-sets, getD-set-other}
-use Rattle.text.specs.Placed.{Placed}
+use Rattle.placing.specs.Placed.{Placed}
 
 -- ---- one after the other
 
@@ -37,16 +37,16 @@ pub written-one :
 written-one out place x next a e = written-then a (record { buffer = refl; end = e })
 
 -- one byte more of a word
-pub word-more :
+pub put-more :
     {before out : List ℕ} {at place : ℕ} (bytes : List ℕ) (i next : ℕ) → i < length bytes → Placed before at (take i bytes) out place →
     next ≡ place + 1 → Placed before at (take (i + 1) bytes) (set out place (getD bytes i 0)) next
-word-more {before} {out} {at} {place} bytes i next l a e = rw (add-one, take-suc bytes i 0 l) (written-one out place (getD bytes i 0) next a e)
+put-more {before} {out} {at} {place} bytes i next l a e = rw (add-one, take-suc bytes i 0 l) (written-one out place (getD bytes i 0) next a e)
 
 -- all of a word
-pub word-all :
+pub put-all :
     {before out : List ℕ} {at place : ℕ} (bytes : List ℕ) (i : ℕ) → i ≤ length bytes → length bytes ≤ i →
     Placed before at (take i bytes) out place → Placed before at bytes out place
-word-all bytes i l m a = let e : i ≡ length bytes = omega arith in rw (e, take-length bytes) at a
+put-all bytes i l m a = let e : i ≡ length bytes = omega arith in rw (e, take-length bytes) at a
 
 -- none of one byte, one more, all
 pub fill-none : (before : List ℕ) (at byte : ℕ) → Placed before at (replicate (at - at) byte) before at

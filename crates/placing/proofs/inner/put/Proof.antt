@@ -1,13 +1,13 @@
--- `word` meets its contract: before round i the first i bytes are written.
+-- `put` meets its contract: before round i the first i bytes are written.
 use mathlib.Core.Path.{_≡_, refl}
 use Prim.Native.Nat.{_+_, _≤_, _-_}
 use lib.ListN.{length, take}
-use Rattle.text.specs.Placed.{Placed}
-use Rattle.text.proofs.Placing.{word-more, word-all}
+use Rattle.placing.specs.Placed.{Placed}
+use Rattle.placing.proofs.Placing.{put-more, put-all}
 use borrow.Author.Needs.{needs}
 use native.Mathlib.Omega.{arith}
-use Rattle.text.proofs.inner.word.Statement.{statement}
-use Rattle.text.proofs.inner.word.Tie as tie
+use Rattle.placing.proofs.inner.put.Statement.{statement}
+use Rattle.placing.proofs.inner.put.Tie as tie
 
 abbrev Inv-loop : tie.InvT-loop
 Inv-loop out₀ at bytes i₀ out i = (i ≤ length bytes) × (length out ≡ length out₀) × Placed out₀ at (take i bytes) out (at + i)
@@ -34,7 +34,7 @@ loop-less : tie.Need-loop-less Inv-loop μ-loop
 loop-less c = search needs
 
 loop-again : tie.Need-loop-again Inv-loop μ-loop
-loop-again c = (search needs, search needs, word-more _ _ _ (c .before .loop-test .taken) (c .before .before .loop .inv .2) (omega arith))
+loop-again c = (search needs, search needs, put-more _ _ _ (c .before .loop-test .taken) (c .before .before .loop .inv .2) (omega arith))
 
 add-result : tie.Need-add-result Inv-loop μ-loop
 add-result c = search needs
@@ -43,10 +43,10 @@ same-length : tie.Need-same-length Inv-loop μ-loop
 same-length c = search needs
 
 returns : tie.Need-returns Inv-loop μ-loop
-returns c = word-all _ _ (c .before .loop .inv .0) (c .loop-test .left) (c .before .loop .inv .2)
+returns c = put-all _ _ (c .before .loop .inv .0) (c .loop-test .left) (c .before .loop .inv .2)
 
-pub word-spec : {M : Type 1} → statement M
-word-spec =
+pub put-spec : {M : Type 1} → statement M
+put-spec =
     tie.close
     (tie.spec
     Inv-loop

@@ -1,0 +1,2 @@
+-- The laws of bytes in a lent buffer.
+pub mod Placing
