@@ -1,13 +1,16 @@
--- A file is version, count field, counts and entries put together: reading gives the counts and entries back, and these give the file.
+-- A file is version, count field, counts and entries put together: reading gives the counts and entries back, and these give the file. It
+-- is a list of bytes.
 use mathlib.Core.Path.{_≡_, refl, _∙_}
 use mathlib.Core.List.{List, [], _∷_}
-use Prim.Native.Nat.{ℕ}
+use Prim.Native.Nat.{ℕ, _*_}
 use native.Mathlib.Omega.{arith}
+use lib.Seq.{take-all}
 use Rattle.mealy.specs.Machine.{Letters}
+use Rattle.mealy.proofs.Letters.{letters-by-two}
 use Rattle.coder.specs.BigEndian.{bigEndian}
 use Rattle.coder.specs.File.{statesOf, inputsOf, outputsOf, entriesOf, fileOf, entriesRefusal, fileRefusal}
 use Rattle.coder.proofs.BigEndian.{bytes-back}
-use Rattle.coder.proofs.Accepted.{Accepted, accepted, by-rest, entries-accepted}
+use Rattle.coder.proofs.Accepted.{EntriesAccepted, Accepted, accepted, by-rest, entries-accepted}
 
 -- what is read of an accepted file gives the file
 file-back : (f : List ℕ) → Letters 256 f → Accepted f → fileOf (statesOf f) (inputsOf f) (outputsOf f) (entriesOf f) ≡ f
@@ -43,3 +46,26 @@ written-read n i o entries e =
       outputs = refl;
       bytes = refl;
     }
+
+entries-bytes : (n i o : ℕ) (entries : List ℕ) → EntriesAccepted n i o entries → Letters 256 entries
+entries-bytes n i o entries a =
+    let h = letters-by-two 256 (n * i) entries (omega (arith, a .size))
+    (λ j l. omega (arith, a .next-state j l, a .limits .states-high)) (λ j l. omega (arith, a .output-letter j l, a .limits .outputs-high)) in
+    rw (take-all (2 * (n * i)) entries (omega (arith, a .size))) at h
+
+pub file-bytes : (n i o : ℕ) (entries : List ℕ) → entriesRefusal n i o entries ≡ 0 → Letters 256 (fileOf n i o entries)
+unfolding bigEndian
+file-bytes n i o entries e =
+    let a = entries-accepted n i o entries e in (
+      omega arith,
+      (
+        omega arith,
+        (
+          omega arith,
+          (
+            omega (arith, a .limits .states-high),
+            (omega (arith, a .limits .inputs-high), (omega (arith, a .limits .outputs-high), entries-bytes n i o entries a)),
+          ),
+        ),
+      ),
+    )

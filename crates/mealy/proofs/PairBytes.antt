@@ -1,14 +1,14 @@
 -- The bytes of a looped pair: whether it is valid hangs on those of its letters alone, and they are input letters.
 use mathlib.Core.Path.{_≡_, refl, ap₂}
-use mathlib.Core.List.{List, [], _∷_}
-use Prim.Native.Nat.{ℕ, zero, suc, _+_, _*_, _/_, _%_, _≤_, _<_}
-use native.Mathlib.Decide.{ℕ-discrete}
+use mathlib.Core.List.{List, _∷_}
+use Prim.Native.Nat.{ℕ, zero, suc, _+_, _*_, _≤_, _<_}
 use native.Mathlib.Omega.{arith}
 use lib.ListN.{length, getD, take}
 use lib.Seq.{getD-take, length-take-le}
 use Rattle.mealy.specs.Machine.{Letters}
 use Rattle.mealy.specs.Setting.{Setting}
 use Rattle.mealy.specs.LoopedPair.{LoopedPair, Run, first, second, offset, letterAt, lettersFrom, mark, unlooped, letters, runInputs, startOf, Valid}
+use Rattle.mealy.proofs.Letters.{letters-by-two}
 use Rattle.mealy.proofs.SameSettings.{pair-letter-below}
 
 -- the pair with other bytes
@@ -60,23 +60,13 @@ module _ (p : LoopedPair) (bytes : List ℕ) (same : (k : ℕ) → k < 2 * lette
 
 -- the bytes of a valid pair's letters
 module _ (S : Setting) (p : LoopedPair) (v : Valid S p) where
-  byte-low : (k : ℕ) → k < 2 * letters p → getD (p .bytes) k 0 < S .M .inputs
-  byte-low k l =
-      let n = S .M .inputs in
-      let at : (r : Run) → letterAt p r (k / 2) < n =
-      λ r. pair-letter-below n p r (letters p) 0 (k / 2) (k / 2) (v .below r) (omega arith) (omega arith) in
-      elim (ℕ-discrete (k % 2) 0) [
-        | yes e ↦ (let z : 2 * (k / 2) + 0 ≡ k = omega arith in rw z at (at first))
-        | no e ↦ (let z : 2 * (k / 2) + 1 ≡ k = omega arith in rw z at (at second))
-      ]
+  letter-low : (r : Run) (j : ℕ) → j < letters p → letterAt p r j < S .M .inputs
+  letter-low r j l = pair-letter-below (S .M .inputs) p r (letters p) 0 j j (v .below r) l (omega arith)
 
   pub valid-letters : Letters (S .M .inputs) (take (2 * letters p) (p .bytes))
-  valid-letters = go (2 * letters p) (p .bytes) (v .held) byte-low
-    where
-      go : (n : ℕ) (xs : List ℕ) → n ≤ length xs → ((k : ℕ) → k < n → getD xs k 0 < S .M .inputs) → Letters (S .M .inputs) (take n xs)
-      go zero xs l h = tt
-      go (suc n) [] l h = tt
-      go (suc n) (x ∷ xs) l h = (h 0 (omega arith), go n xs (omega arith) (λ k m. h (suc k) (omega arith)))
+  valid-letters =
+      letters-by-two (S .M .inputs) (letters p) (p .bytes) (v .held)
+      (λ j l. let z : 2 * j + 0 ≡ 2 * j = omega arith in rw z at (letter-low first j l)) (letter-low second)
 
   -- with those bytes alone it is as valid
   pub valid-cut : Valid S (withBytes p (take (2 * letters p) (p .bytes)))
