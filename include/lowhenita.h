@@ -4,7 +4,8 @@
  * Link with liblowhenita.a, which `make lib` writes to target/staticlib/. docs/c-interface.md has the layout and an example for
  * each call.
  *
- * A byte string is a pointer and a length. A coder is given as the bytes of its coder file (docs/coder-file.md). Each call returns 0,
+ * A byte string is a pointer and a length. A coder is given as the bytes of its coder file (docs/coder-file.md), which lowhenita_write
+ * makes from its counts and entries. Each call returns 0,
  * or the number of the first refusal that applies (docs/refusals.md). A refused call leaves every buffer as it was. A call that
  * returns 0 writes its results into `result`, in fields of 8 bytes, big-endian: field k is bytes 8 k to 8 k + 7. `result` has at
  * least LOWHENITA_RESULT_BYTES bytes, or the call is refused with 11. Bytes past what a call writes, in `result` and in any other
@@ -31,7 +32,7 @@ extern "C" {
 #endif
 
 /* The version of this header and of the library; make and pkg-config take it from here. */
-#define LOWHENITA_VERSION "1.2"
+#define LOWHENITA_VERSION "1.3"
 
 /* Limits of a coder: states, input letters, output letters; the bytes of its file. */
 #define LOWHENITA_MAX_STATES 16
@@ -88,7 +89,7 @@ static inline const char *lowhenita_refusal_text(size_t number)
     case LOWHENITA_REFUSED_COUNTS:
         return "N or I is not 1 to 16, or O is not 1 to 64.";
     case LOWHENITA_REFUSED_COUNT_FIELD:
-        return "The count field does not fit N and I: it must be 3 + 2 * N * I.";
+        return "The count field is not 3 + 2 * N * I, or there are not 2 * N * I entry bytes to be written.";
     case LOWHENITA_REFUSED_ENTRY:
         return "An entry leads to a state that there is not, or puts out a letter that there is not.";
     case LOWHENITA_REFUSED_START_STATE:
@@ -190,6 +191,19 @@ size_t lowhenita_window(const uint8_t *file, size_t file_len,
 size_t lowhenita_table(const uint8_t *file, size_t file_len,
                        size_t before, size_t after,
                        uint8_t *table, size_t table_len,
+                       uint8_t *result, size_t result_len);
+
+/*
+ * Writes the coder file of `states`, `inputs` and `outputs`, which are compared whole, and of `entries`, two bytes each (next state, output
+ * letter), the entries of state 0 first, in the order of the input letters. The file stands at the front of `file`, which has at least
+ * 6 + entries_len bytes; LOWHENITA_MAX_FILE_BYTES are enough for any. It is the one file that these counts and entries have: bytes 3 to 5
+ * and those from byte 6 on of any accepted file give that file back.
+ * Field 0: the number of bytes written, 6 + entries_len.
+ * Refusals, in checking order: 4, 5 (entries_len is not 2 * states * inputs), 6, 11 (file too short, or result).
+ */
+size_t lowhenita_write(size_t states, size_t inputs, size_t outputs,
+                       const uint8_t *entries, size_t entries_len,
+                       uint8_t *file, size_t file_len,
                        uint8_t *result, size_t result_len);
 
 #ifdef __cplusplus

@@ -8,9 +8,12 @@ uint8_t letters_room[LENT_ROOM];
 arguments plain(enum call call, const coder_file *f)
 {
     arguments a;
+    size_t k;
 
     memset(&a, 0, sizeof a);
     a.call = call;
+    for (k = 0; k < 3; k++)
+        a.counts[k] = f->bytes[3 + k];
     a.file = f->bytes;
     a.file_len = f->len;
     a.bytes = letters_room;
@@ -196,6 +199,11 @@ arguments random_arguments(enum call call, const coder_file *f)
         random_sides(&a);
         a.bytes_len = a.before + 1 + a.after;
         random_received(&c, a.bytes_len);
+        break;
+    case CALL_WRITE:
+        a.bytes_len = f->len - 6;
+        memcpy(letters_room, f->bytes + 6, a.bytes_len);
+        a.lent_len = f->len + slack;
         break;
     default:
         a.lent_len = slack + random_table_sides(&a, c.outputs, random_below(16) ? 300 : 5000);

@@ -47,6 +47,11 @@ void known_letters(const uint8_t *letters, size_t len)
         known_value("the letters' order", (size_t)memcmp(found->bytes, letters, len), 0);
 }
 
+void known_refusal(const arguments *a, size_t number)
+{
+    known_value("the number returned", compare(a).returned, number);
+}
+
 void compare_random(enum call call, const coder_file *f)
 {
     arguments a = random_arguments(call, f);
@@ -63,6 +68,7 @@ void compare_some_of_each(const coder_file *f)
     compare_random(CALL_WINDOW, f);
     compare_random(CALL_WINDOW, f);
     compare_random(CALL_TABLE, f);
+    compare_random(CALL_WRITE, f);
 }
 
 void round_trip(const coder_file *f)

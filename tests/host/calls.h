@@ -11,7 +11,7 @@
 /* The letters of all arguments made here. */
 extern uint8_t letters_room[LENT_ROOM];
 
-/* Arguments with this coder, no letters and the least result; all else 0. */
+/* Arguments with this coder, its counts, no letters or entries and the least result; all else 0. */
 arguments plain(enum call call, const coder_file *f);
 
 void random_letters(size_t n, size_t limit);
@@ -35,6 +35,9 @@ void round_trip(const coder_file *f);
 
 /* The enumerator's two ways to try a window agree, for windows of at most so many letters. */
 void compare_both_ways(const coder_file *f, size_t most);
+
+/* A call that has to return this number. */
+void known_refusal(const arguments *a, size_t number);
 
 void compare_random(enum call call, const coder_file *f);
 void compare_some_of_each(const coder_file *f);

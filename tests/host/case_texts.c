@@ -7,7 +7,7 @@
 #include <stdio.h>
 #include <string.h>
 
-enum { MOST_TEXT = 65535, MOST_BLOCK = 8192, MOST_TEXTS = 999, BEFORE_CALL = 238 };
+enum { MOST_TEXT = 65535, MOST_BLOCK = 16384, MOST_TEXTS = 999, BEFORE_CALL = 238 };
 
 static const char *texts_folder;
 static char text[MOST_TEXT], block[MOST_BLOCK];
@@ -89,11 +89,16 @@ void text_file(const uint8_t *file, size_t len)
     put("\n");
 }
 
+static void count_case(void)
+{
+    block_cases++;
+    now.cases++;
+}
+
 static void put_call(enum order order, size_t lent)
 {
     put("%s into %zu = ", order == LEAST_LOOKAHEAD ? "least_lookahead" : "fewest_letters", lent);
-    block_cases++;
-    now.cases++;
+    count_case();
 }
 
 static void put_run(unsigned byte, size_t n)
@@ -104,19 +109,24 @@ static void put_run(unsigned byte, size_t n)
         put(" %u*%zu", byte, n);
 }
 
-/* The lent buffer: these bytes at its front, all of them letters, and the rest as it was before the
-   call. */
-static void put_buffer(size_t lent, const uint8_t *bytes, size_t len)
+static void put_bytes(const uint8_t *bytes, size_t len)
 {
     size_t k, n;
 
-    put(lent > 0 ? ", buffer" : ", buffer -");
     for (k = 0; k < len; k += n) {
         n = 1;
         while (k + n < len && bytes[k + n] == bytes[k])
             n++;
         put_run(bytes[k], n);
     }
+}
+
+/* The lent buffer: these bytes at its front, none of them the byte before a call, and the rest as it
+   was before the call. */
+static void put_buffer(size_t lent, const uint8_t *bytes, size_t len)
+{
+    put(lent > 0 ? ", buffer" : ", buffer -");
+    put_bytes(bytes, len);
     put_run(BEFORE_CALL, lent - len);
     put("\n");
 }
@@ -144,6 +154,41 @@ void text_answer(enum order order, size_t lent, const least *window, const first
         return;
     }
     put("window %zu %zu", window->before, window->after);
+    put_buffer(lent, NULL, 0);
+}
+
+void text_reader(const size_t counts[3], const uint8_t *entries, size_t len)
+{
+    put("counts = coder %zu %zu %zu\n", counts[0], counts[1], counts[2]);
+    count_case();
+    put("entries = bytes");
+    put_bytes(entries, len);
+    put("\n");
+    count_case();
+}
+
+static void put_writer(const size_t counts[3], const uint8_t *entries, size_t len, size_t lent)
+{
+    put("write %zu %zu %zu on", counts[0], counts[1], counts[2]);
+    put(len > 0 ? "" : " -");
+    put_bytes(entries, len);
+    put(" into %zu = ", lent);
+    count_case();
+}
+
+void text_writer(const size_t counts[3], const uint8_t *entries, size_t len, size_t lent,
+                 const uint8_t *file, size_t file_len)
+{
+    put_writer(counts, entries, len, lent);
+    put("count %zu", file_len);
+    put_buffer(lent, file, file_len);
+}
+
+void text_writer_refused(const size_t counts[3], const uint8_t *entries, size_t len, size_t lent,
+                         size_t number)
+{
+    put_writer(counts, entries, len, lent);
+    put("refused %zu", number);
     put_buffer(lent, NULL, 0);
 }
 

@@ -1,5 +1,6 @@
-/* Texts of cases for the program cases: searches in a named order, with what each is to give.
-   crates/cases/stdin says how a case is written. */
+/* Texts of cases for the program cases: calls that a host in C does not have, searches in a named
+   order and the reader, and the library's own writer, with what each is to give. crates/cases/stdin
+   says how a case is written. */
 #ifndef CASE_TEXTS_H
 #define CASE_TEXTS_H
 
@@ -16,6 +17,17 @@ void text_file(const uint8_t *file, size_t len);
    that works; or, where it is known that none works, the first looped pair. */
 void text_refusal(enum order order, size_t lent, size_t number);
 void text_answer(enum order order, size_t lent, const least *window, const first_pair *first);
+
+/* The reader's two calls on the file, which is accepted: these counts and entries. */
+void text_reader(const size_t counts[3], const uint8_t *entries, size_t len);
+
+/* The writer on these counts and entries, lent so many bytes: the file. */
+void text_writer(const size_t counts[3], const uint8_t *entries, size_t len, size_t lent,
+                 const uint8_t *file, size_t file_len);
+
+/* The same, refused with this number. */
+void text_writer_refused(const size_t counts[3], const uint8_t *entries, size_t len, size_t lent,
+                         size_t number);
 
 /* Ends the last text and writes the list; nothing is written after it. */
 void close_texts(void);

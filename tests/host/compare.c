@@ -38,16 +38,24 @@ static size_t call_library(const arguments *a, const uint8_t *file, const uint8_
     case CALL_WINDOW:
         return lowhenita_window(file, a->file_len, a->before, a->after, bytes, a->bytes_len, result,
                                 a->result_len);
+    case CALL_WRITE:
+        return lowhenita_write(a->counts[0], a->counts[1], a->counts[2], bytes, a->bytes_len, lent,
+                               a->lent_len, result, a->result_len);
     default:
         return lowhenita_table(file, a->file_len, a->before, a->after, lent, a->lent_len, result,
                                a->result_len);
     }
 }
 
-/* An empty buffer is NULL every other time, else the address of the page without access. */
+/* An empty buffer is NULL about every other time, else the address of the page without access. */
 static uint8_t *or_null(uint8_t *buffer, size_t len)
 {
-    return len == 0 && now.comparisons % 2 == 0 ? NULL : buffer;
+    static uint32_t empty;
+
+    if (len > 0)
+        return buffer;
+    empty = empty * 1664525u + 1013904223u;
+    return empty >> 31 ? NULL : buffer;
 }
 
 static void same_bytes(const char *name, const lent *b, const uint8_t *wanted, size_t len)
@@ -98,10 +106,38 @@ static reply call_and_compare(const arguments *a, size_t wanted, size_t seed)
     else if (wanted == 0 && a->call == CALL_SEARCH)
         judge_search(a, got.lent, got.result, wanted_lent, wanted_result);
     same_bytes("the file", &file_buffer, a->file, a->file_len);
-    same_bytes("the letters", &bytes_buffer, a->bytes, a->bytes_len);
+    same_bytes("the letters or entries", &bytes_buffer, a->bytes, a->bytes_len);
     same_bytes("the lent buffer", &lent_buffer, wanted_lent, a->lent_len);
     same_bytes("the result", &result_buffer, wanted_result, a->result_len);
     return got;
+}
+
+/* The file of a call is written again from its parts, once: bytes 3 to 5 and those from byte 6 on. An
+   accepted file has to come out as it is; of any other the enumerator says what is wanted. */
+static void write_again(const arguments *a)
+{
+    static uint8_t latest[LENT_ROOM];
+    static size_t latest_len;
+    arguments w;
+    size_t k;
+
+    if (a->call == CALL_WRITE || a->file_len < 6
+        || (a->file_len == latest_len && memcmp(a->file, latest, latest_len) == 0))
+        return;
+    latest_len = a->file_len;
+    memcpy(latest, a->file, latest_len);
+    memset(&w, 0, sizeof w);
+    w.call = CALL_WRITE;
+    for (k = 0; k < 3; k++)
+        w.counts[k] = latest[3 + k];
+    w.bytes = latest + 6;
+    w.bytes_len = latest_len - 6;
+    w.lent_len = latest_len + latest_len % 3;
+    w.result_len = RESULT_BYTES;
+    if (refusal_of_file(latest, latest_len) == 0)
+        compare_known(&w, latest, latest_len);
+    else
+        compare(&w);
 }
 
 reply compare(const arguments *a)
@@ -109,11 +145,13 @@ reply compare(const arguments *a)
     const reply left_out = {SIZE_MAX, lent_pattern(0), lent_pattern(0)};
     size_t wanted = refusal_of_call(a), seed = random_below(LENT_SEEDS);
 
-    show_call(a);
     if (!fits_in_buffers(a)) {
+        show_call(a);
         differ("arguments too long for the buffers");
         return left_out;
     }
+    write_again(a);
+    show_call(a);
     fill_wanted(a, seed);
     if (wanted == 0 && a->call != CALL_SEARCH) {
         allow_steps(ANSWER_STEPS);
@@ -125,11 +163,11 @@ reply compare(const arguments *a)
     return call_and_compare(a, wanted, seed);
 }
 
-void compare_known(const arguments *a, const uint8_t *bytes, size_t count)
+reply compare_known(const arguments *a, const uint8_t *bytes, size_t count)
 {
     show_call(a);
     fill_wanted(a, 0);
     memcpy(wanted_lent, bytes, count);
     put_field(wanted_result, 0, count);
-    call_and_compare(a, 0, 0);
+    return call_and_compare(a, 0, 0);
 }

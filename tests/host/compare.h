@@ -59,13 +59,13 @@ typedef struct reply {
 
 void open_buffers(void);
 
-/* A call held against the enumerator. Where the enumeration is too long the call is left out; the
-   reply is then one that no call gives. */
+/* A call held against the enumerator; before it, its file is written again from its parts. Where the
+   enumeration is too long the call is left out; the reply is then one that no call gives. */
 reply compare(const arguments *a);
 
 /* A call whose answer is known without the enumerator: it writes these bytes to the front of the
    lent buffer, and their count in field 0. */
-void compare_known(const arguments *a, const uint8_t *bytes, size_t count);
+reply compare_known(const arguments *a, const uint8_t *bytes, size_t count);
 
 /* ---- trying.c ---- */
 

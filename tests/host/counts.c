@@ -68,7 +68,8 @@ int end_groups(void)
 
 const char *call_name(enum call call)
 {
-    static const char *const names[CALLS] = {"run", "search", "decode", "check", "window", "table"};
+    static const char *const names[CALLS] = {"run", "search", "decode", "check", "window",
+                                              "table", "write"};
 
     return names[call];
 }
@@ -88,11 +89,12 @@ static void print_call(const arguments *a)
     const pair *p = &a->pair;
 
     printf("  lowhenita_%s: start %zu, before %zu, after %zu, pair %zu %zu "
-           "lengths %zu %zu %zu %zu, lent %zu, result %zu\n",
+           "lengths %zu %zu %zu %zu, counts %zu %zu %zu, lent %zu, result %zu\n",
            call_name(a->call), a->start, a->before, a->after, p->s, p->t, p->back_loop, p->lead_in,
-           p->lead_out, p->forward_loop, a->lent_len, a->result_len);
+           p->lead_out, p->forward_loop, a->counts[0], a->counts[1], a->counts[2], a->lent_len,
+           a->result_len);
     print_bytes("file", a->file, a->file_len);
-    print_bytes("letters", a->bytes, a->bytes_len);
+    print_bytes("letters or entries", a->bytes, a->bytes_len);
 }
 
 void show_call(const arguments *a)

@@ -71,12 +71,33 @@ static void fill_table(const coder *c, size_t before, size_t after, uint8_t *tab
     }
 }
 
+/* The file of counts and entries: version 1; in two bytes, the higher one first, how many bytes are
+   still to come; N; I; O; the entries. Returns its length. */
+static size_t put_file(const arguments *a, uint8_t *file)
+{
+    size_t count = 3 + a->bytes_len, k;
+
+    file[0] = 1;
+    file[1] = (uint8_t)(count >> 8);
+    file[2] = (uint8_t)(count & 255);
+    for (k = 0; k < 3; k++)
+        file[3 + k] = (uint8_t)a->counts[k];
+    for (k = 0; k < a->bytes_len; k++)
+        file[6 + k] = a->bytes[k];
+    return 3 + count;
+}
+
 int expected_answer(const arguments *a, uint8_t *lent, uint8_t *result)
 {
-    coder c = coder_of_file(a->file);
+    coder c;
     size_t count, k;
     pair p;
 
+    if (a->call == CALL_WRITE) {
+        put_field(result, 0, put_file(a, lent));
+        return 1;
+    }
+    c = coder_of_file(a->file);
     switch (a->call) {
     case CALL_RUN:
         put_field(result, 1, follow_run(&c, a->start, a->bytes, a->bytes_len, lent));

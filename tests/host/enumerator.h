@@ -30,26 +30,30 @@ typedef struct pair {
     const uint8_t *letters;
 } pair;
 
-enum call { CALL_RUN, CALL_SEARCH, CALL_DECODE, CALL_CHECK, CALL_WINDOW, CALL_TABLE, CALLS };
+enum call {
+    CALL_RUN, CALL_SEARCH, CALL_DECODE, CALL_CHECK, CALL_WINDOW, CALL_TABLE, CALL_WRITE, CALLS
+};
 
-/* The arguments of any of the six calls; a call looks only at those it is given. */
+/* The arguments of any of the seven calls; a call looks only at those it is given. */
 typedef struct arguments {
     enum call call;
-    const uint8_t *file;
+    const uint8_t *file;    /* all but write */
     size_t file_len;
     size_t start;           /* run */
     size_t before, after;   /* decode, window, table */
     pair pair;              /* check, without its letters */
-    const uint8_t *bytes;   /* input of the run, letters of the check, received letters */
+    size_t counts[3];       /* write: states, inputs, outputs */
+    const uint8_t *bytes;   /* input of the run, letters of the check, received letters, entries */
     size_t bytes_len;
-    size_t lent_len;        /* output of run and decode, letters of the search, table */
+    size_t lent_len;        /* output of run and decode, letters of the search, table, file */
     size_t result_len;
 } arguments;
 
 /* ---- enumerator_refusals.c ---- */
 
-/* 0 or the first number that applies. */
+/* 0 or the first number that applies; that of a file alone. */
 size_t refusal_of_call(const arguments *a);
+size_t refusal_of_file(const uint8_t *file, size_t len);
 
 /* The bytes of a table, or one more than the most where there would be more. */
 size_t table_bytes(size_t outputs, size_t letters);

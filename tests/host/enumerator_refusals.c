@@ -8,9 +8,25 @@ static int in_range(size_t value, size_t most)
     return value >= 1 && value <= most;
 }
 
-static size_t refusal_of_file(const uint8_t *file, size_t len)
+static int counts_in_range(size_t states, size_t inputs, size_t outputs)
 {
-    size_t count, states, inputs, outputs, k;
+    return in_range(states, MOST_STATES) && in_range(inputs, MOST_INPUTS)
+        && in_range(outputs, MOST_OUTPUTS);
+}
+
+static int entries_in_range(size_t states, size_t inputs, size_t outputs, const uint8_t *entries)
+{
+    size_t k;
+
+    for (k = 0; k < states * inputs; k++)
+        if (entries[2 * k] >= states || entries[2 * k + 1] >= outputs)
+            return 0;
+    return 1;
+}
+
+size_t refusal_of_file(const uint8_t *file, size_t len)
+{
+    size_t count, states, inputs, outputs;
 
     if (len < 6)
         return 1;
@@ -22,14 +38,12 @@ static size_t refusal_of_file(const uint8_t *file, size_t len)
     states = file[3];
     inputs = file[4];
     outputs = file[5];
-    if (!in_range(states, MOST_STATES) || !in_range(inputs, MOST_INPUTS)
-        || !in_range(outputs, MOST_OUTPUTS))
+    if (!counts_in_range(states, inputs, outputs))
         return 4;
     if (count != 3 + 2 * states * inputs)
         return 5;
-    for (k = 0; k < states * inputs; k++)
-        if (file[6 + 2 * k] >= states || file[7 + 2 * k] >= outputs)
-            return 6;
+    if (!entries_in_range(states, inputs, outputs, file + 6))
+        return 6;
     return 0;
 }
 
@@ -158,11 +172,30 @@ static size_t refusal_of_table(const arguments *a, const coder *c)
     return 0;
 }
 
+/* Document 02, 3/13: 4, 5 of the number of entry bytes, 6, 11. */
+static size_t refusal_of_write(const arguments *a)
+{
+    size_t states = a->counts[0], inputs = a->counts[1], outputs = a->counts[2];
+
+    if (!counts_in_range(states, inputs, outputs))
+        return 4;
+    if (a->bytes_len != 2 * states * inputs)
+        return 5;
+    if (!entries_in_range(states, inputs, outputs, a->bytes))
+        return 6;
+    if (a->lent_len < 6 + 2 * states * inputs || a->result_len < RESULT_BYTES)
+        return 11;
+    return 0;
+}
+
 size_t refusal_of_call(const arguments *a)
 {
-    size_t number = refusal_of_file(a->file, a->file_len);
+    size_t number;
     coder c;
 
+    if (a->call == CALL_WRITE)
+        return refusal_of_write(a);
+    number = refusal_of_file(a->file, a->file_len);
     if (number != 0)
         return number;
     c = coder_of_file(a->file);

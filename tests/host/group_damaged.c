@@ -107,7 +107,15 @@ static void damage_file(arguments *a)
     }
 }
 
-/* A number of the call: a start state, a side, a length. */
+/* A count that the writer is given: 0, or above its limit. */
+static void damage_given_count(arguments *a, size_t k)
+{
+    static const size_t most[3] = {MOST_STATES, MOST_INPUTS, MOST_OUTPUTS};
+
+    a->counts[k] = random_below(4) == 0 ? 0 : number_from(most[k] + 1);
+}
+
+/* A number of the call: a start state, a side, a length, a count. */
 static void damage_number(arguments *a)
 {
     size_t *const lengths[4] = {&a->pair.back_loop, &a->pair.lead_in, &a->pair.lead_out,
@@ -117,6 +125,8 @@ static void damage_number(arguments *a)
 
     if (a->call == CALL_RUN) {
         a->start = number_from(states);
+    } else if (a->call == CALL_WRITE) {
+        damage_given_count(a, k % 3);
     } else if (a->call == CALL_CHECK) {
         if (random_below(2))
             *(k % 2 ? &a->pair.s : &a->pair.t) = number_from(states);
@@ -131,9 +141,12 @@ static void damage_number(arguments *a)
 static void damage_letters(const arguments *a)
 {
     size_t limit = a->call == CALL_RUN || a->call == CALL_CHECK ? file_room[4] : file_room[5];
+    size_t k = a->bytes_len > 0 ? random_below(a->bytes_len) : 0;
 
+    if (a->call == CALL_WRITE && k % 2 == 0)
+        limit = file_room[3];
     if (a->bytes_len > 0)
-        letters_room[random_below(a->bytes_len)] = byte_from(limit);
+        letters_room[k] = byte_from(limit);
 }
 
 static void damage_letter_count(arguments *a)
@@ -182,7 +195,8 @@ static void check_reach(void)
     static const char *const reach[CALLS] = {
         [CALL_RUN]    = "11111111000110", [CALL_SEARCH] = "11111110000100",
         [CALL_DECODE] = "11111110100101", [CALL_CHECK]  = "11111111010110",
-        [CALL_WINDOW] = "11111110110101", [CALL_TABLE]  = "11111110101100"
+        [CALL_WINDOW] = "11111110110101", [CALL_TABLE]  = "11111110101100",
+        [CALL_WRITE]  = "10001110000100"
     };
     int call, k;
 
@@ -203,9 +217,11 @@ void group_damaged(const char *name, size_t faults, size_t count)
     begin_group(name);
     try_verdicts(0, 0, 0, 0);
     for (k = 0; k < count; k++) {
-        if (k % 12 == 0) {
-            make_random(&f, 1 + random_below(k % 24 ? 16 : 4), 1 + random_below(k % 24 ? 16 : 3),
-                        1 + random_below(k % 24 ? 64 : 3));
+        if (k % (2 * CALLS) == 0) {
+            int large = k % (4 * CALLS) != 0;
+
+            make_random(&f, 1 + random_below(large ? 16 : 4), 1 + random_below(large ? 16 : 3),
+                        1 + random_below(large ? 64 : 3));
             search(&f);
         }
         a = random_arguments((enum call)(k % CALLS), &f);

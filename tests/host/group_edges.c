@@ -6,12 +6,8 @@
 
 static uint8_t file_room[LENT_ROOM];
 
-static void known_refusal(const arguments *a, size_t number)
-{
-    known_value("the number returned", compare(a).returned, number);
-}
-
-/* Counts at and past their ranges: a file of the right length with zero entries. */
+/* Counts at and past their ranges: a file of the right length with zero entries, for the writer zero
+   entries of the right number. */
 static void edge_counts(size_t states, size_t inputs, size_t outputs, size_t number)
 {
     size_t count = 3 + 2 * states * inputs;
@@ -27,13 +23,16 @@ static void edge_counts(size_t states, size_t inputs, size_t outputs, size_t num
     file_room[3] = (uint8_t)states;
     file_room[4] = (uint8_t)inputs;
     file_room[5] = (uint8_t)outputs;
-    memset(letters_room, 0, 16);
+    memset(letters_room, 0, count);
     for (call = 0; call < CALLS; call++) {
         a = plain((enum call)call, &none);
         a.file = file_room;
         a.file_len = count + 3;
         a.pair.back_loop = a.pair.forward_loop = 1;
-        a.bytes_len = call == CALL_CHECK ? 6 : 1;
+        a.counts[0] = states;
+        a.counts[1] = inputs;
+        a.counts[2] = outputs;
+        a.bytes_len = call == CALL_CHECK ? 6 : call == CALL_WRITE ? count - 3 : 1;
         a.lent_len = SEARCH_BYTES;
         known_refusal(&a, number);
     }

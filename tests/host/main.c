@@ -1,4 +1,4 @@
-/* The comparison of the library with the enumerator: all six calls, every byte of every buffer.
+/* The comparison of the library with the enumerator: all seven calls, every byte of every buffer.
    One line for each group of comparisons; the last line counts the groups. Argument: the folder for
    the texts of cases.
 
@@ -42,10 +42,12 @@ int main(int count, char **words)
     group_arguments(CALL_DECODE, "strings with random arguments", 20000);
     group_arguments(CALL_WINDOW, "single windows with random arguments", 20000);
     group_arguments(CALL_TABLE, "tables with random arguments", 5000);
+    group_arguments(CALL_WRITE, "files written with random arguments", 10000);
     group_damaged("damaged arguments, one fault", 1, 150000);
     group_damaged("damaged arguments, two faults", 2, 150000);
     group_damaged("damaged arguments, three faults", 3, 50000);
     group_ties();
+    group_writer();
     group_orders();
     return end_groups();
 }

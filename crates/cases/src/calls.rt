@@ -3,6 +3,7 @@ use crate::asking;
 use crate::asking::Request;
 use crate::got;
 use crate::got::Got;
+use values::CountResult;
 use values::LoopedPair;
 use values::Order;
 use values::Window;
@@ -40,10 +41,10 @@ fn window(file: &[u8], w: Window, received: &[u8]) -> Got {
     }
 }
 
-fn counted(r: decoder::CountResult) -> Got {
+fn counted(r: CountResult) -> Got {
     match r {
-        decoder::CountResult::Refused(k) => got::short(got::REFUSED_BUFFER, k, 0, 0),
-        decoder::CountResult::Done { count } => got::short(got::COUNTED, count, 0, 0),
+        CountResult::Refused(k) => got::short(got::REFUSED_BUFFER, k, 0, 0),
+        CountResult::Done { count } => got::short(got::COUNTED, count, 0, 0),
     }
 }
 
@@ -134,6 +135,9 @@ pub(crate) fn make(q: Request, file: &[u8], input: &[u8], lent: &mut [u8]) -> Go
     }
     if q.call == asking::TABLE {
         return counted(decoder::table(file, w, lent));
+    }
+    if q.call == asking::WRITE {
+        return counted(writer::write(q.c, q.d, q.e, input, lent));
     }
     // The search, and those that name an order.
     if q.call <= asking::FEWEST_LETTERS {

@@ -18,9 +18,9 @@ use Rattle.fitting.proofs.Answers.{right-byte-unique}
 use Rattle.coder.specs.File.{settingOf}
 use Rattle.values.specs.Window.{size}
 use Rattle.values.specs.declared.Window.{Window}
+use Rattle.values.specs.declared.CountResult.{CountResult}
 use Rattle.decoder.specs.Written.{Written}
 use Rattle.decoder.specs.Places.{places, ByteAt, stringRefusalIn, StringPromise}
-use Rattle.decoder.specs.declared.CountResult.{CountResult}
 
 pub string-comes-back :
     (f : List ℕ) (w : Window) (s : ℕ) (xs before : List ℕ) (r : CountResult) (after : List ℕ) → fileRefusal f ≡ 0 →

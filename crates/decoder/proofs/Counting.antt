@@ -3,8 +3,8 @@ use mathlib.Core.Path.{_≡_, refl, ap}
 use mathlib.Core.List.{List}
 use Prim.Native.Nat.{ℕ}
 use Rattle.coder.proofs.Refusals.{refused-answer, upon-refused, upon-done}
+use Rattle.values.specs.declared.CountResult.the-variants.{Refused, Done}
 use Rattle.decoder.specs.Count.{CountPromise, CountGiven}
-use Rattle.decoder.specs.declared.CountResult.the-variants.{Refused, Done}
 
 module _ (k n : ℕ) (Q : ℕ → ℕ → Type 0) (before : List ℕ) where
   pub count-refused : {r : ℕ} → r ≡ k → (r ≡ 0 → ⊥) → CountPromise k n Q before (Refused r) before

@@ -19,6 +19,7 @@ use Rattle.fitting.proofs.Answers.{right-unique, right-byte, right-byte-unique}
 use Rattle.coder.specs.Refusal.{upon}
 use Rattle.values.specs.Window.{size}
 use Rattle.values.specs.declared.Window.{Window}
+use Rattle.values.specs.declared.CountResult as count
 use Rattle.decoder.specs.Written.{Written}
 use Rattle.decoder.specs.Count.{CountPromise}
 use Rattle.decoder.specs.Refusal.{windowRefusal}
@@ -27,7 +28,6 @@ use Rattle.decoder.specs.Places.{stringRefusalIn, StringPromise}
 use Rattle.decoder.specs.Table.{tableRefusalIn, TablePromise}
 use Rattle.decoder.specs.declared.WindowResult.{WindowResult}
 use Rattle.decoder.specs.declared.WindowResult.the-variants.{Refused, Answered}
-use Rattle.decoder.specs.declared.CountResult as count
 use Rattle.decoder.proofs.Accepting.{window-accepted, string-accepted, string-asked, table-accepted, table-asked}
 use Rattle.decoder.proofs.Writing.{written-front, written-unique}
 use Rattle.decoder.proofs.Decoding.{startsOf, file-right}

@@ -12,13 +12,13 @@ use Rattle.coder.specs.File.{settingOf}
 use Rattle.coder.specs.declared.inner.tables.Coder.{Coder}
 use Rattle.values.specs.Window.{size}
 use Rattle.values.specs.declared.Window.{Window}
+use Rattle.values.specs.declared.CountResult.{CountResult}
 use Rattle.fitting.specs.Answer.{RightByte}
 use Rattle.setting.specs.Words.{settingOfCoder}
 use Rattle.fitting.specs.Tables.{TablesOf, Tables}
 use Rattle.decoder.specs.Written.{Written}
 use Rattle.decoder.specs.Count.{CountPromise, CountGiven}
 use Rattle.decoder.specs.Refusal.{stringRefusal}
-use Rattle.decoder.specs.declared.CountResult.{CountResult}
 
 -- How many places of n received letters have a full window: n − b − a, none where n is below b + 1 + a ("Decoding", the
 -- sentence on strings).

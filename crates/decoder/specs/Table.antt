@@ -8,10 +8,10 @@ use lib.Dec.{leb}
 use Rattle.coder.specs.File.{outputsOf, settingOf}
 use Rattle.values.specs.Window.{size}
 use Rattle.values.specs.declared.Window.{Window}
+use Rattle.values.specs.declared.CountResult.{CountResult}
 use Rattle.filling.specs.Table.{EntryAt}
 use Rattle.decoder.specs.Count.{CountPromise, CountGiven}
 use Rattle.decoder.specs.Refusal.{tableSize, tableRefusal}
-use Rattle.decoder.specs.declared.CountResult.{CountResult}
 
 -- v is the right byte for the window with index k, in the table of a file and a window
 abbrev pub EntryOf : List ℕ → Window → ℕ → ℕ → Type 0

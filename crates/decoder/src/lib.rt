@@ -4,6 +4,7 @@ ghost use Rattle.decoder.specs.Places.{StringPromise};
 ghost use Rattle.decoder.specs.Table.{TablePromise};
 use inner::checked;
 use inner::refusal;
+use values::CountResult;
 use values::Window;
 
 pub mod inner; // inner.rt: what the crates above call on checked bytes; no public calls
@@ -12,12 +13,6 @@ pub mod inner; // inner.rt: what the crates above call on checked bytes; no publ
 pub enum WindowResult {
     Refused(usize),
     Answered(fitting::Answer),
-}
-
-// The refusal's number, or how many bytes were written.
-pub enum CountResult {
-    Refused(usize),
-    Done { count: usize },
 }
 
 // Decodes one window of received letters. Refusals 1 to 6, 8, 9, 13.

@@ -18,7 +18,7 @@ use Rattle.search.specs.declared.Verdict.{Verdict}
 use Rattle.search.proofs.Determined.{verdict-determined}
 use Rattle.coder.proofs.Judging.{judges-same}
 use Rattle.layout.specs.Layout.{withFields, verdictFields, numberOf}
-use Rattle.lowhenita.specs.Host.{Hosted, BothStay, RunHosted, SearchHosted, BytesGiven, DecodeHosted, TableHosted, CheckHosted, WindowHosted}
+use Rattle.lowhenita.specs.Host.{Hosted, BothStay, RunHosted, SearchHosted, BytesGiven, DecodeHosted, TableHosted, CheckHosted, WindowHosted, WriteHosted}
 
 -- ---- any call: two numbers, and two outcomes of which the given laws say that they are the same
 
@@ -103,3 +103,12 @@ window-determined f w received result result′ result₂ r q =
     g .fields
     ∙ ap (λ (x : ℕ). withFields result (x ∷ [])) (right-byte-unique (settingOf f) received (w .before) (g .right) (g₂ .right))
     ∙ sym (g₂ .fields))
+
+-- ---- the writer of coder files
+
+pub write-determined :
+    (n i o : ℕ) (entries before result : List ℕ) (r q : ℕ) (after after₂ result′ result₂ : List ℕ) →
+    WriteHosted n i o entries before result r after result′ → WriteHosted n i o entries before result q after₂ result₂ →
+    (r ≡ q) × ((after ≡ after₂) × (result′ ≡ result₂))
+write-determined n i o entries before result r q after after₂ result′ result₂ =
+    hosted-determined both-stay (λ g g₂. (g .bytes ∙ sym (g₂ .bytes), g .fields ∙ sym (g₂ .fields)))

@@ -20,8 +20,10 @@ use Rattle.search.specs.Search.{searchRefusal, wanted}
 use Rattle.search.proofs.Files.{search-accepted}
 use Rattle.checker.specs.Check.{checkRefusal}
 use Rattle.checker.proofs.Checking.{check-accepted}
+use Rattle.writer.specs.Write.{WriteAsked, FileGiven}
+use Rattle.writer.proofs.Writing.{write-accepted}
 use Rattle.layout.specs.Layout.{resultBytes, withFields}
-use Rattle.lowhenita.specs.Host.{roomy, Hosted, runNumber, searchNumber, BytesGiven, decodeNumber, tableNumber, checkNumber, windowNumber}
+use Rattle.lowhenita.specs.Host.{roomy, Hosted, runNumber, searchNumber, BytesGiven, decodeNumber, tableNumber, checkNumber, windowNumber, writeNumber, FileLaid}
 
 -- ---- the promise of a call
 
@@ -36,6 +38,12 @@ pub bytes-done :
     {n count : ℕ} {Q : ℕ → ℕ → Type 0} {before result after result′ : List ℕ} → CountGiven n Q before count after →
     result′ ≡ withFields result (count ∷ []) → BytesGiven n Q before result after result′
 bytes-done g e = record { bytes = g .bytes; fields = rw (g .counted) at e }
+
+-- calls that write a file and put the number of its bytes into field 0
+pub file-done :
+    {file before result after result′ : List ℕ} {count : ℕ} → FileGiven file before count after →
+    result′ ≡ withFields result (count ∷ []) → FileLaid file before result after result′
+file-done g e = record { bytes = g .bytes; fields = rw (g .counted) at e }
 
 -- ---- a call that is not refused: what its checked part asks, and a result buffer that is long enough
 
@@ -81,3 +89,10 @@ pub accepted-window :
 accepted-window f w received result e =
     let h = window-accepted f w received _ e .fits in
     record { asked = rw h at e; room = leb-true _ _ h }
+
+pub accepted-write :
+    (n i o : ℕ) (entries before result : List ℕ) → writeNumber n i o entries before result ≡ 0 →
+    Accepted (WriteAsked n i o entries before) result
+accepted-write n i o entries before result e =
+    let a = write-accepted n i o entries before _ e in
+    record { asked = a .asked; room = leb-true _ _ (a .fits) }

@@ -12,7 +12,7 @@ use Rattle.mealy.specs.Machine.{outs, end}
 use Rattle.mealy.specs.Setting.{Setting}
 use Rattle.mealy.specs.LoopedPair.{LoopedPair, Valid}
 use Rattle.coder.specs.Refusal.{upon, Judges}
-use Rattle.coder.specs.File.{outputsOf, machineOf, settingOf}
+use Rattle.coder.specs.File.{fileOf, outputsOf, machineOf, settingOf}
 use Rattle.running.specs.Run.{runRefusal}
 use Rattle.values.specs.declared.Window.{Window}
 use Rattle.fitting.specs.Answer.{RightByte}
@@ -24,6 +24,7 @@ use Rattle.values.specs.Order.{relationOf, defaultOrder}
 use Rattle.search.specs.Search.{searchRefusal, wanted, Says}
 use Rattle.search.specs.declared.Verdict.{Verdict}
 use Rattle.checker.specs.Check.{checkRefusal}
+use Rattle.writer.specs.Write.{writeRefusalIn}
 use Rattle.layout.specs.Layout.{resultBytes, withFields, verdictFields, numberOf}
 
 -- The result buffer is long enough; shorter is refusal 11, in its place among the refusals.
@@ -130,3 +131,19 @@ pub record AnswerGiven (f : List ℕ) (w : Window) (received result result′ : 
 abbrev pub WindowHosted : List ℕ → Window → List ℕ → List ℕ → ℕ → List ℕ → Type 0
 WindowHosted f w received result r result′ =
     Hosted (windowNumber f w received result) r (result′ ≡ result) (AnswerGiven f w received result result′)
+
+-- ---- the writer of coder files
+
+abbrev pub writeNumber : ℕ → ℕ → ℕ → List ℕ → List ℕ → List ℕ → ℕ
+writeNumber n i o entries before result = writeRefusalIn n i o entries (length before) (roomy result)
+
+-- a file at the buffer's front; field 0 is the number of its bytes
+pub record FileLaid (file before result after result′ : List ℕ) : Type 0 where
+  pub bytes : after ≡ file ++ drop (length file) before
+  pub fields : result′ ≡ withFields result (length file ∷ [])
+
+-- The writer for a host (document 02, 3/13).
+abbrev pub WriteHosted : ℕ → ℕ → ℕ → List ℕ → List ℕ → List ℕ → ℕ → List ℕ → List ℕ → Type 0
+WriteHosted n i o entries before result r after result′ =
+    Hosted (writeNumber n i o entries before result) r (BothStay before result after result′)
+    (FileLaid (fileOf n i o entries) before result after result′)

@@ -5,7 +5,7 @@ ghost use lib.Dec.{leb};
 ghost use Rattle.values.specs.Window.{window};
 ghost use Rattle.values.specs.Pair.{pairOf, loopedPair};
 ghost use Rattle.layout.specs.Layout.{resultBytes};
-ghost use Rattle.lowhenita.specs.Host.{RunHosted, SearchHosted, DecodeHosted, CheckHosted, WindowHosted, TableHosted};
+ghost use Rattle.lowhenita.specs.Host.{RunHosted, SearchHosted, DecodeHosted, CheckHosted, WindowHosted, TableHosted, WriteHosted};
 use values::Order;
 
 // The bytes of the result buffer that each call wants.
@@ -156,5 +156,27 @@ pub extern "C" fn lowhenita_table(
     }
     let size = decoder::inner::checked::table(file, w, table);
     layout::inner::put_one(result, size);
+    0
+}
+
+// Writes the file of three counts and their entry bytes. Refusals 4 to 6, 11.
+#[no_mangle]
+pub extern "C" fn lowhenita_write(
+    states: usize,
+    inputs: usize,
+    outputs: usize,
+    entries: &[u8],
+    file: &mut [u8],
+    result: &mut [u8],
+) -> usize
+    ensures { λ r. ⌜ WriteHosted states inputs outputs (now (entries .entry)) (now (file .entry)) (now (result .entry)) r (now (file .exit)) (now (result .exit)) ⌝ }
+{
+    let fits = RESULT <= result.len();
+    let k = writer::inner::refusal(states, inputs, outputs, entries, file.len(), fits);
+    if k != 0 {
+        return k;
+    }
+    let count = writer::inner::checked(states, inputs, outputs, entries, file);
+    layout::inner::put_one(result, count);
     0
 }

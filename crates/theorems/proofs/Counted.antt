@@ -4,8 +4,8 @@ use mathlib.Core.List.{List}
 use Prim.Native.Nat.{ℕ, zero, suc, _<_}
 use native.Mathlib.Omega.{arith}
 use lib.ListN.{getD}
+use Rattle.values.specs.declared.CountResult.the-variants.{Done}
 use Rattle.decoder.specs.Count.{CountPromise}
-use Rattle.decoder.specs.declared.CountResult.the-variants.{Done}
 
 pub record Counted (k n : ℕ) (Q : ℕ → ℕ → Type 0) (m : ℕ) (after : List ℕ) : Type 0 where
   pub accepted : k ≡ 0

@@ -15,7 +15,7 @@ use Rattle.mealy.specs.Index.{windowAt}
 use Rattle.mealy.proofs.Answers.{length-outs, answer-unique, none↔no-run}
 use Rattle.mealy.proofs.Indices.{length-window}
 use Rattle.coder.specs.Refusal.{upon, answer}
-use Rattle.coder.specs.File.{entriesOf, fileRefusal, outputsOf, machineOf, settingOf}
+use Rattle.coder.specs.File.{entriesOf, fileOf, fileRefusal, outputsOf, machineOf, settingOf}
 use Rattle.coder.proofs.Refusals.{both-right}
 use Rattle.running.specs.Run.{runRefusal, runRefusalIn, RunPromise}
 use Rattle.running.specs.declared.RunResult as run-result
@@ -24,6 +24,8 @@ use Rattle.values.specs.declared.Window.{Window}
 use Rattle.values.specs.Order.{relationOf, defaultOrder}
 use Rattle.values.specs.declared.Order.{Order}
 use Rattle.values.specs.declared.Order.the-variants.{LeastLookahead, FewestLetters}
+use Rattle.values.specs.declared.CountResult.{CountResult}
+use Rattle.values.specs.declared.CountResult as count-result
 use Rattle.fitting.specs.Answer.{meaning, RightByte}
 use Rattle.fitting.specs.declared.Answer.{Answer}
 use Rattle.decoder.specs.Written.{Written}
@@ -32,8 +34,6 @@ use Rattle.decoder.specs.Refusal.{windowRefusal, stringRefusal, tableSize, tabl
 use Rattle.decoder.specs.Places.{places}
 use Rattle.decoder.specs.Window.{AnsweredRight, WindowPromise}
 use Rattle.decoder.specs.declared.WindowResult as window-result
-use Rattle.decoder.specs.declared.CountResult.{CountResult}
-use Rattle.decoder.specs.declared.CountResult as count-result
 use Rattle.decoder.proofs.Accepting.{window-accepted}
 use Rattle.search.specs.Search.{searchRefusal, wanted, Says, RefusedSearch, SearchPromise}
 use Rattle.search.specs.declared.SearchResult.{SearchResult}
@@ -43,12 +43,13 @@ use Rattle.search.specs.declared.Verdict.{Verdict}
 use Rattle.search.specs.declared.Verdict.the-variants.{Least, NoDecoder}
 use Rattle.search.proofs.Determined.{found, no-decoder-exactly}
 use Rattle.checker.specs.Check.{checkRefusal}
+use Rattle.writer.specs.Write.{writeRefusal, writeRefusalIn}
 use Rattle.lowhenita.specs.Host.{roomy, Hosted}
 use Rattle.theorems.specs.Published.{longEnough, givenResult}
 use Rattle.theorems.specs.Demands.{Demand1, Said, SaidByte, Demand2, Demand3, NoLater, Demanded, FromC}
-use Rattle.theorems.proofs.Published.{file-published, run-published, search-published, check-published, window-published, string-published, table-published}
+use Rattle.theorems.proofs.Published.{file-published, run-published, search-published, check-published, window-published, string-published, table-published, write-published}
 use Rattle.theorems.proofs.Counted.{counted}
-use Rattle.theorems.proofs.Handing.{search-found, run-handed, search-handed, decode-handed, table-handed, check-handed, window-handed}
+use Rattle.theorems.proofs.Handing.{search-found, run-handed, search-handed, decode-handed, table-handed, check-handed, window-handed, write-handed}
 use Rattle.theorems.proofs.RoundTrip.{round-trip}
 use Rattle.theorems.proofs.HostRoundTrip.{host-round-trip}
 
@@ -112,6 +113,9 @@ demand-1 = record {
       moved _ _ (ap (searchRefusal f) (sym (both-right (leb wanted (length before)))) ∙ search-published f before [])
       (search-upon (searchRefusal f (leb wanted (length before))) _ r before after p);
   check = λ f p r q. moved _ _ (check-published f p []) q;
+  write = λ n i o entries before r after p.
+      moved _ _ (write-published n i o entries before [])
+      (both-answers (writeRefusalIn n i o entries (length before) true) _ _ _ _ (p .result) (p .bytes));
   run-from-C = λ f s xs before result r after result′.
       hosted-moved (ap (runRefusal f s xs) (one-more (leb (length xs) (length before)) result) ∙ run-published f s xs before (givenResult result));
   search-from-C = λ f before result r after result′.
@@ -127,6 +131,10 @@ demand-1 = record {
   check-from-C = λ f p result r result′. hosted-moved (ap (checkRefusal f p) (one-more true result) ∙ check-published f p (givenResult result));
   window-from-C = λ f w received result r result′.
       hosted-moved (ap (windowRefusal f w received) (one-more true result) ∙ window-published f w received (givenResult result));
+  write-from-C = λ n i o entries before result r after result′.
+      hosted-moved
+      (ap (writeRefusal n i o entries) (one-more (leb (length (fileOf n i o entries)) (length before)) result) ∙
+      write-published n i o entries before (givenResult result));
 }
 
 -- ---- demand 2
@@ -250,4 +258,5 @@ from-c = record {
   table = λ f w before result r after result′ long h. table-handed result long f w before r after result′ h;
   check = λ f p result r result′ long h. check-handed result long f p r result′ h;
   window = λ f w received result r result′ long h. window-handed result long f w received r result′ h;
+  write = λ n i o entries before result r after result′ long h. write-handed result long n i o entries before r after result′ h;
 }

@@ -11,7 +11,7 @@ use Rattle.mealy.specs.LoopedPair.{LoopedPair}
 use Rattle.mealy.specs.Machine.{end}
 use Rattle.mealy.specs.Answer as mealy
 use Rattle.coder.specs.Refusal.{upon}
-use Rattle.coder.specs.File.{machineOf}
+use Rattle.coder.specs.File.{fileOf, machineOf}
 use Rattle.coder.proofs.Refusals.{both-right, upon-done}
 use Rattle.running.specs.Run.{runRefusalIn, RunPromise}
 use Rattle.running.specs.declared.RunResult as run
@@ -25,14 +25,15 @@ use Rattle.decoder.specs.Places.{stringRefusalIn, StringPromise}
 use Rattle.decoder.specs.Table.{tableRefusalIn, TablePromise}
 use Rattle.decoder.specs.Window.{WindowPromise}
 use Rattle.decoder.specs.declared.WindowResult as window
-use Rattle.decoder.specs.declared.CountResult as count
 use Rattle.values.specs.Order.{defaultOrder}
+use Rattle.values.specs.declared.CountResult as count
 use Rattle.search.specs.Search.{searchRefusal, wanted, SearchPromise}
 use Rattle.search.specs.declared.SearchResult as search
 use Rattle.checker.specs.Check.{checkRefusal, CheckPromise}
 use Rattle.checker.specs.declared.CheckResult as check
+use Rattle.writer.specs.Write.{writeRefusalIn, WritePromise}
 use Rattle.layout.specs.Layout.{resultBytes, fieldsOf}
-use Rattle.lowhenita.specs.Host.{roomy, Hosted, BothStay, RunHosted, SearchHosted, BytesGiven, DecodeHosted, TableHosted, CheckHosted, WindowHosted}
+use Rattle.lowhenita.specs.Host.{roomy, Hosted, BothStay, RunHosted, SearchHosted, BytesGiven, DecodeHosted, TableHosted, CheckHosted, WindowHosted, WriteHosted}
 use Rattle.lowhenita.proofs.Handing.{accepted-search}
 use Rattle.theorems.specs.Handed.{Laid, Handed, laidRun, laidSearch, laidCount, laidCheck, laidWindow, FoundFromC}
 
@@ -73,7 +74,7 @@ caseOf mealy.none = (None, refl)
 caseOf mealy.several = (Several, refl)
 
 -- a call that returned 0
-given : {k : ℕ} {Stays Given : Type 0} → Hosted k 0 Stays Given → Given
+pub given : {k : ℕ} {Stays Given : Type 0} → Hosted k 0 Stays Given → Given
 given {k} {Stays} {Given} h = go k (h .number) (h .outcome)
   where
     go : (n : ℕ) → 0 ≡ n → upon n (λ j. Stays) Given → Given
@@ -184,4 +185,25 @@ module _ (result : List ℕ) (long : resultBytes ≤ length result) where
         fields = g .fields ∙ rw (v .1, g .right .byte);
       })
       (λ j e g. record { own = window.the-variants.Refused (suc j); promised = rw e refl; number = refl; fields = g })
+      (rw fits at h)
+
+  pub write-handed :
+      (n i o : ℕ) (entries before : List ℕ) (r : ℕ) (after result′ : List ℕ) →
+      WriteHosted n i o entries before result r after result′ →
+      Handed (λ own. WritePromise n i o entries before own after) laidCount result r result′
+  unfolding fieldsOf
+  write-handed n i o entries before r after result′ h =
+      hand (writeRefusalIn n i o entries (length before) true)
+      (λ e g. record {
+        own = count.the-variants.Done (length (fileOf n i o entries));
+        promised = record { result = rw e; bytes = rw e (g .bytes) };
+        number = refl;
+        fields = g .fields;
+      })
+      (λ j e g. record {
+        own = count.the-variants.Refused (suc j);
+        promised = record { result = rw e; bytes = rw e (g .bytes) };
+        number = refl;
+        fields = g .fields;
+      })
       (rw fits at h)

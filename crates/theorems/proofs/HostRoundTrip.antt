@@ -28,7 +28,7 @@ use Rattle.theorems.proofs.Handing.{search-found, run-handed, decode-ha
 
 -- ---- what the host reads
 
-first-read :
+pub first-read :
     (result : List ℕ) (l : Laid) (n : ℕ) (ns : List ℕ) {r : ℕ} {result′ : List ℕ} → l ≡ done (n ∷ ns) → FieldHolds n →
     r ≡ l .returned → result′ ≡ withFields result (l .fields) → (r ≡ 0) × (fieldAt result′ 0 ≡ n)
 first-read result l n ns d small p q =

@@ -4,6 +4,7 @@ pub mod Counted
 pub mod Handing
 pub mod RoundTrip
 pub mod HostRoundTrip
+pub mod Files
 pub mod Tests
 pub mod Starred
 pub mod SearchChecked

@@ -19,8 +19,9 @@ use Rattle.values.specs.declared.Window.{Window}
 use Rattle.filling.specs.Table.{maxTable}
 use Rattle.decoder.specs.Refusal.{sidesRefusal, windowRefusal, stringRefusal, tableSize, tableRefusal}
 use Rattle.search.specs.Search.{searchRefusal}
+use Rattle.writer.specs.Write.{writeRefusal}
 use Rattle.checker.specs.Check.{checkRefusal}
-use Rattle.theorems.specs.Published.{Bytes, longEnough, refusalOf, givenFile, givenRun, givenSearch, givenCheck, givenWindow, givenString, givenTable}
+use Rattle.theorems.specs.Published.{Bytes, longEnough, refusalOf, givenFile, givenRun, givenSearch, givenCheck, givenWindow, givenString, givenTable, givenWrite}
 
 -- ---- numbers 1 to 6
 
@@ -136,3 +137,12 @@ module _ (f : List ℕ) where
       tableRefusal f w (longEnough (givenTable f w before more .buffers)) ≡ refusalOf (givenTable f w before more)
   unfolding tableRefusal
   table-published w before more = sym (rw (both-right (leb (tableSize (outputsOf f) w) maxTable)) (sides-first w _))
+
+-- ---- the writer, which is given no file
+
+pub write-published :
+    (n i o : ℕ) (entries before : List ℕ) (more : List Bytes) →
+    writeRefusal n i o entries (longEnough (givenWrite n i o entries before more .buffers)) ≡
+    refusalOf (givenWrite n i o entries before more)
+unfolding writeRefusal entriesRefusal
+write-published n i o entries before more = sym (three-first (not (inRange n i o)) (not (eqb (length entries) (2 * (n * i)))) (not (allBelow (n * i) (entryInRange n o entries))) _)

@@ -20,11 +20,11 @@ use Rattle.coder.proofs.Accepted.{accepted}
 use Rattle.coder.proofs.Tables.{output-below}
 use Rattle.product.proofs.Depths.{pairs-high}
 use Rattle.values.specs.declared.Window.{Window}
+use Rattle.values.specs.declared.CountResult.the-variants.{Done}
 use Rattle.search.specs.declared.Verdict.the-variants.{Least}
 use Rattle.search.proofs.Determined.{found}
 use Rattle.decoder.specs.Refusal.{sidesRefusal, stringRefusal}
 use Rattle.decoder.specs.Places.{places, stringRefusalIn, StringPromise}
-use Rattle.decoder.specs.declared.CountResult.the-variants.{Done}
 use Rattle.decoder.proofs.ComeBack.{string-comes-back}
 use Rattle.theorems.specs.RoundTrip.{Coded, LettersComeBack}
 

@@ -21,7 +21,8 @@ use Rattle.mealy.proofs.Plain.{any-closed}
 use Rattle.mealy.proofs.LoopedPairs.{excludes}
 use Rattle.mealy.proofs.LeastWindows.{least-unique}
 use Rattle.coder.specs.Refusal.{allBelow}
-use Rattle.coder.specs.File.{within, inRange, entryInRange, entriesRefusal, fileRefusal, entryOf, statesOf, inputsOf, outputsOf, machineOf, settingOf}
+use Rattle.coder.specs.BigEndian.{bigEndian}
+use Rattle.coder.specs.File.{within, inRange, entryInRange, entriesRefusal, fileRefusal, fileOf, entryOf, statesOf, inputsOf, outputsOf, machineOf, settingOf}
 use Rattle.coder.specs.Table.{table, coderOf, tableAt}
 use Rattle.coder.proofs.Refusals.{true-false, both-true, all-at}
 use Rattle.coder.proofs.Accepted.{accepted}
@@ -36,6 +37,7 @@ use Rattle.values.specs.declared.Order.{Order}
 use Rattle.values.proofs.Orders.{is-order}
 use Rattle.values.specs.declared.Window.{Window}
 use Rattle.values.specs.declared.LoopedPair as values
+use Rattle.values.specs.declared.CountResult.the-variants.{Done}
 use Rattle.fitting.specs.Answer.{meaning, answerOf}
 use Rattle.fitting.specs.declared.Answer.{Answer}
 use Rattle.fitting.specs.declared.Answer.the-variants.{Letter, None, Several}
@@ -47,10 +49,10 @@ use Rattle.decoder.specs.Refusal.{sidesRefusal, windowRefusal, tableSize, table
 use Rattle.decoder.specs.Window.{AnsweredRight}
 use Rattle.decoder.specs.Table.{EntryOf, tableRefusalIn}
 use Rattle.decoder.specs.declared.WindowResult.the-variants.{Answered}
-use Rattle.decoder.specs.declared.CountResult.the-variants.{Done}
 use Rattle.decoder.proofs.Accepting.{window-accepted}
 use Rattle.decoder.proofs.Writing.{written-bytes, written-unique}
 use Rattle.decoder.proofs.Decoding.{startsOf, file-right}
+use Rattle.writer.proofs.Writing.{write-given}
 use Rattle.search.specs.Search.{searchRefusal, wanted, Says, FoundVerdict, SearchPromise}
 use Rattle.search.specs.declared.Verdict.{Verdict}
 use Rattle.search.specs.declared.Verdict.the-variants.{Least, NoDecoder}
@@ -92,6 +94,7 @@ entryByte f n b k = byteOf (meaning (decoded (coderOf f) (startsOf f) (windowAt 
 
 unfoldable test : List ℕ → Claim → Bool
 test f (claimed.counts n i o) = eqb (statesOf f) n && (eqb (inputsOf f) i && eqb (outputsOf f) o)
+test f (claimed.written n i o entries) = eqb (entriesRefusal n i o entries) 0 && sameList (fileOf n i o entries) f
 test f (claimed.window o b a) = leastTest (machineOf f) o b a
 test f (claimed.no-decoder s t bytes) = firstTest (machineOf f) s t bytes && eqb (checkRefusal f (claimed.pair s t bytes) true) 0
 test f claimed.different-outputs = differentTest (machineOf f)
@@ -212,6 +215,9 @@ module _ (f : List ℕ) (z : fileRefusal f ≡ 0) where
       let t = both-true (eqb (statesOf f) n) (eqb (inputsOf f) i && eqb (outputsOf f) o) e in
       let u = both-true (eqb (inputsOf f) i) (eqb (outputsOf f) o) (t .1) in
       λ r p. rw (eqb-true (statesOf f) n (t .0), eqb-true (inputsOf f) i (u .0), eqb-true (outputsOf f) o (u .1)) at (rw z at p)
+  claim-holds (claimed.written n i o entries) e =
+      let t = both-true (eqb (entriesRefusal n i o entries) 0) (sameList (fileOf n i o entries) f) e in
+      λ before r after l p. write-given n i o entries before f r after (eqb-true _ _ (t .0)) (same-list _ _ (t .1)) l p
   claim-holds (claimed.window o b a) e = window-holds o b a (least-test (machineOf f) o b a (total f (accepted f z)) e)
   claim-holds (claimed.no-decoder s t bytes) e =
       let u = both-true (firstTest (machineOf f) s t bytes) (eqb (checkRefusal f (claimed.pair s t bytes) true) 0) e in
@@ -257,7 +263,7 @@ cases-hold (c ∷ cs) e =
     (z, claims-hold (c .file) z (c .claims) (u .0), cases-hold cs (u .1))
 
 passed : testCases starred ≡ true
-unfolding test checkRefusal windowRefusal tableRefusal runRefusal sidesRefusal leastTest laterOrFails worksTest agree allWords noEarlier firstTest validTest closesTest differentTest allBelow fileRefusal entriesRefusal inRange within entryInRange machineOf entryOf coderOf table tableAt decoded pass added add contribution gather unionOf answerOf leadingZeros hasKey isEntry over windowAt
+unfolding test bigEndian checkRefusal windowRefusal tableRefusal runRefusal sidesRefusal leastTest laterOrFails worksTest agree allWords noEarlier firstTest validTest closesTest differentTest allBelow fileRefusal entriesRefusal inRange within entryInRange machineOf entryOf coderOf table tableAt decoded pass added add contribution gather unionOf answerOf leadingZeros hasKey isEntry over windowAt
 passed = refl
 
 -- every starred case: its file is accepted, and all that is claimed of it holds

@@ -20,9 +20,9 @@ use Rattle.coder.proofs.Accepted.{Accepted, accepted}
 use Rattle.coder.proofs.Tables.{output-below}
 use Rattle.values.specs.Window.{size}
 use Rattle.values.specs.declared.Window.{Window}
+use Rattle.values.specs.declared.CountResult as count
 use Rattle.decoder.specs.Refusal.{tableSize}
 use Rattle.decoder.specs.Table.{EntryOf, tableRefusalIn, TablePromise}
-use Rattle.decoder.specs.declared.CountResult as count
 use Rattle.decoder.proofs.Accepting.{table-accepted}
 use Rattle.theorems.proofs.Counted.{Counted, counted}
 use Rattle.theorems.proofs.RoundTrip.{outs-letters}

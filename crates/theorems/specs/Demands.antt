@@ -15,7 +15,7 @@ use Rattle.mealy.specs.LoopedPair as mealy
 use Rattle.mealy.specs.LoopedPair.{Valid, TurnedRuns}
 use Rattle.mealy.specs.First.{First}
 use Rattle.coder.specs.Refusal.{upon}
-use Rattle.coder.specs.File.{statesOf, inputsOf, outputsOf, entriesOf, headerOf, EntriesPart, machineOf, settingOf}
+use Rattle.coder.specs.File.{statesOf, inputsOf, outputsOf, entriesOf, fileOf, headerOf, EntriesPart, machineOf, settingOf}
 use Rattle.coder.specs.declared.Header.{Header}
 use Rattle.coder.specs.declared.Header as header-result
 use Rattle.running.specs.Run.{RunPromise}
@@ -28,6 +28,8 @@ use Rattle.values.specs.declared.Window.{Window}
 use Rattle.values.specs.declared.Order.{Order}
 use Rattle.values.specs.declared.Order.the-variants.{LeastLookahead, FewestLetters}
 use Rattle.values.specs.declared.LoopedPair.{LoopedPair}
+use Rattle.values.specs.declared.CountResult.{CountResult}
+use Rattle.values.specs.declared.CountResult as count-result
 use Rattle.fitting.specs.Answer.{meaning}
 use Rattle.fitting.specs.declared.Answer.{Answer}
 use Rattle.decoder.specs.Written.{Written}
@@ -37,8 +39,6 @@ use Rattle.decoder.specs.Places.{places, ByteAt, StringPromise}
 use Rattle.decoder.specs.Table.{EntryOf, TablePromise}
 use Rattle.decoder.specs.declared.WindowResult.{WindowResult}
 use Rattle.decoder.specs.declared.WindowResult as window-result
-use Rattle.decoder.specs.declared.CountResult.{CountResult}
-use Rattle.decoder.specs.declared.CountResult as count-result
 use Rattle.search.specs.Search.{IsNoDecoder, FoundVerdict, SearchPromise}
 use Rattle.search.specs.declared.Verdict.{Verdict}
 use Rattle.search.specs.declared.Verdict.the-variants.{Least, NoDecoder}
@@ -47,9 +47,10 @@ use Rattle.search.specs.declared.SearchResult as search-result
 use Rattle.checker.specs.Check.{CheckedRight, CheckPromise}
 use Rattle.checker.specs.declared.CheckResult.{CheckResult}
 use Rattle.checker.specs.declared.CheckResult as check-result
+use Rattle.writer.specs.Write.{WritePromise}
 use Rattle.layout.specs.Layout.{resultBytes, withFields, verdictFields}
-use Rattle.lowhenita.specs.Host.{Hosted, BothStay, RunGiven, RunHosted, VerdictGiven, SearchHosted, BytesGiven, DecodeHosted, TableHosted, JudgementGiven, CheckHosted, AnswerGiven, WindowHosted}
-use Rattle.theorems.specs.Published.{Given, refusalOf, givenFile, givenRun, givenSearch, givenCheck, givenWindow, givenString, givenTable, givenResult}
+use Rattle.lowhenita.specs.Host.{Hosted, BothStay, RunGiven, RunHosted, VerdictGiven, SearchHosted, BytesGiven, DecodeHosted, TableHosted, JudgementGiven, CheckHosted, AnswerGiven, WindowHosted, FileLaid, WriteHosted}
+use Rattle.theorems.specs.Published.{Given, refusalOf, givenFile, givenRun, givenSearch, givenCheck, givenWindow, givenString, givenTable, givenWrite, givenResult}
 use Rattle.theorems.specs.RoundTrip.{LettersComeBack, LettersComeBackFromC}
 use Rattle.theorems.specs.Handed.{Handed, laidRun, laidSearch, laidCount, laidCheck, laidWindow}
 
@@ -96,6 +97,11 @@ pub record Demand1 : Type 0 where
   pub check :
       (f : List ℕ) (p : mealy.LoopedPair) (r : CheckResult) → CheckPromise f p r →
       Judged (givenCheck f p []) (λ k. r ≡ check-result.the-variants.Refused k) (CheckedRight f p r)
+  pub write :
+      (n i o : ℕ) (entries before : List ℕ) (r : CountResult) (after : List ℕ) → WritePromise n i o entries before r after →
+      Judged (givenWrite n i o entries before []) (λ k. (r ≡ count-result.the-variants.Refused k) × (after ≡ before))
+      ((r ≡ count-result.the-variants.Done (length (fileOf n i o entries))) ×
+      (after ≡ fileOf n i o entries ++ drop (length (fileOf n i o entries)) before))
   -- from C the number is returned, and there is the result buffer besides
   pub run-from-C :
       (f : List ℕ) (s : ℕ) (xs before result : List ℕ) (r : ℕ) (after result′ : List ℕ) →
@@ -123,6 +129,11 @@ pub record Demand1 : Type 0 where
       (f : List ℕ) (w : Window) (received result : List ℕ) (r : ℕ) (result′ : List ℕ) →
       WindowHosted f w received result r result′ →
       Hosted (refusalOf (givenWindow f w received (givenResult result))) r (result′ ≡ result) (AnswerGiven f w received result result′)
+  pub write-from-C :
+      (n i o : ℕ) (entries before result : List ℕ) (r : ℕ) (after result′ : List ℕ) →
+      WriteHosted n i o entries before result r after result′ →
+      Hosted (refusalOf (givenWrite n i o entries before (givenResult result))) r (BothStay before result after result′)
+      (FileLaid (fileOf n i o entries) before result after result′)
 
 -- ---- demand 2: the machine of the table runs; the answer goes by what fits; letters come back
 
@@ -225,3 +236,7 @@ pub record FromC : Type 0 where
   pub window :
       (f : List ℕ) (w : Window) (received result : List ℕ) (r : ℕ) (result′ : List ℕ) → resultBytes ≤ length result →
       WindowHosted f w received result r result′ → Handed (WindowPromise f w received) laidWindow result r result′
+  pub write :
+      (n i o : ℕ) (entries before result : List ℕ) (r : ℕ) (after result′ : List ℕ) → resultBytes ≤ length result →
+      WriteHosted n i o entries before result r after result′ →
+      Handed (λ own. WritePromise n i o entries before own after) laidCount result r result′

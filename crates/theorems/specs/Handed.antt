@@ -9,9 +9,9 @@ use Rattle.running.specs.declared.RunResult as run
 use Rattle.fitting.specs.Answer.{meaning}
 use Rattle.decoder.specs.declared.WindowResult.{WindowResult}
 use Rattle.decoder.specs.declared.WindowResult as window
-use Rattle.decoder.specs.declared.CountResult.{CountResult}
-use Rattle.decoder.specs.declared.CountResult as count
 use Rattle.values.specs.Order.{defaultOrder}
+use Rattle.values.specs.declared.CountResult.{CountResult}
+use Rattle.values.specs.declared.CountResult as count
 use Rattle.search.specs.Search.{SearchPromise}
 use Rattle.search.specs.declared.Verdict.{Verdict}
 use Rattle.search.specs.declared.SearchResult.{SearchResult}

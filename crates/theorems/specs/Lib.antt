@@ -2,5 +2,6 @@
 pub mod Published
 pub mod Handed
 pub mod RoundTrip
+pub mod Files
 pub mod Starred
 pub mod Demands

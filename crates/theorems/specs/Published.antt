@@ -1,14 +1,14 @@
 -- The published list of refusals, once for all calls: its numbers in checking order and when each applies (document 01, "Numbers of
--- refusal, in checking order"); and what each call is given.
+-- refusal, in checking order"; document 02, 3/13, for the writer); and what each call is given.
 use Prim.Native.Nat.{ℕ, _+_, _-_, _*_}
 use mathlib.Core.Bool.{Bool, true, not, _&&_}
-use mathlib.Core.List.{List, [], _∷_}
+use mathlib.Core.List.{List, [], _∷_, _++_}
 use lib.ListN.{length}
 use lib.Dec.{ltb, leb, eqb}
 use Rattle.mealy.specs.LoopedPair.{LoopedPair, letters}
 use Rattle.coder.specs.Refusal.{refuse, allBelow, lettersBelow}
 use Rattle.coder.specs.Limits.{maxSide}
-use Rattle.coder.specs.File.{versionOf, countField, statesOf, inputsOf, outputsOf, entriesOf, inRange, entryInRange}
+use Rattle.coder.specs.File.{versionOf, countField, statesOf, inputsOf, outputsOf, entriesOf, fileOf, inRange, entryInRange}
 use Rattle.values.specs.Window.{size}
 use Rattle.values.specs.declared.Window.{Window}
 use Rattle.filling.specs.Table.{maxTable}
@@ -22,9 +22,26 @@ pub record Bytes : Type 0 where
   pub has : ℕ
   pub wants : ℕ
 
+-- The coder that a call is given: a file, or, as the writer has it, three counts and the entry bytes.
+pub data Source : Type 0 where
+  file : List ℕ → Source
+  parts : ℕ → ℕ → ℕ → List ℕ → Source
+
+abbrev pub statesGiven : Source → ℕ
+statesGiven (file f) = statesOf f
+statesGiven (parts n i o entries) = n
+
+abbrev pub inputsGiven : Source → ℕ
+inputsGiven (file f) = inputsOf f
+inputsGiven (parts n i o entries) = i
+
+abbrev pub outputsGiven : Source → ℕ
+outputsGiven (file f) = outputsOf f
+outputsGiven (parts n i o entries) = o
+
 -- What a call is given. A list is empty where the call is given nothing of its sort: no number about that applies then.
 pub record Given : Type 0 where
-  pub file : List ℕ
+  pub coder : Source
   -- start states
   pub starts : List ℕ
   -- sides of a window
@@ -61,28 +78,37 @@ pub record Rule : Type 0 where
   pub number : ℕ
   pub applies : Bool
 
--- A test is asked only where no number before it applies: that of 3 stands behind 1, so that the file has a count field, and that of 6
--- behind 5, so that it has all entries.
-abbrev pub published : Given → List Rule
-published g =
-    let f = g .file in
+-- Numbers 4 to 6, of three counts and the entry bytes. What is counted for number 5 is an argument.
+abbrev pub partsRules : ℕ → ℕ → ℕ → List ℕ → Bool → List Rule
+partsRules n i o entries rightNumber =
+    record { number = 4; applies = not (inRange n i o) } ∷
+    record { number = 5; applies = not rightNumber } ∷
+    record { number = 6; applies = not (allBelow (n * i) (entryInRange n o entries)) } ∷
+    []
+
+-- Numbers 1 to 6, of a file; of counts and entry bytes 4 to 6, where number 5 is about the number of entry bytes (document 02, 3/13). A
+-- test is asked only where no number before it applies: that of 3 stands behind 1, so that the file has a count field, and that of 6 behind
+-- 5, so that there are all entries.
+abbrev pub coderRules : Source → List Rule
+coderRules (file f) =
     record { number = 1; applies = ltb (length f) 6 } ∷
     record { number = 2; applies = not (eqb (versionOf f) 1) } ∷
     record { number = 3; applies = not (eqb (countField f) (length f - 3)) } ∷
-    record { number = 4; applies = not (inRange (statesOf f) (inputsOf f) (outputsOf f)) } ∷
-    record { number = 5; applies = not (eqb (countField f) (3 + 2 * (statesOf f * inputsOf f))) } ∷
-    record {
-      number = 6;
-      applies = not (allBelow (statesOf f * inputsOf f) (entryInRange (statesOf f) (outputsOf f) (entriesOf f)));
-    } ∷
-    record { number = 7; applies = not (lettersBelow (statesOf f) (g .starts)) } ∷
+    partsRules (statesOf f) (inputsOf f) (outputsOf f) (entriesOf f) (eqb (countField f) (3 + 2 * (statesOf f * inputsOf f)))
+coderRules (parts n i o entries) = partsRules n i o entries (eqb (length entries) (2 * (n * i)))
+
+abbrev pub published : Given → List Rule
+published g =
+    let c = g .coder in
+    coderRules c ++
+    (record { number = 7; applies = not (lettersBelow (statesGiven c) (g .starts)) } ∷
     record { number = 8; applies = not (sidesWithin (g .sides)) } ∷
     record { number = 9; applies = not (lengthsRight (g .counted)) } ∷
-    record { number = 10; applies = not (tablesWithin (outputsOf f) (g .tables)) } ∷
+    record { number = 10; applies = not (tablesWithin (outputsGiven c) (g .tables)) } ∷
     record { number = 11; applies = not (longEnough (g .buffers)) } ∷
-    record { number = 12; applies = not (lettersBelow (inputsOf f) (g .inputs)) } ∷
-    record { number = 13; applies = not (lettersBelow (outputsOf f) (g .received)) } ∷
-    []
+    record { number = 12; applies = not (lettersBelow (inputsGiven c) (g .inputs)) } ∷
+    record { number = 13; applies = not (lettersBelow (outputsGiven c) (g .received)) } ∷
+    [])
 
 -- The number of the first rule of a list that applies; 0 where none does.
 abbrev pub firstNumber : List Rule → ℕ
@@ -97,13 +123,13 @@ refusalOf g = firstNumber (published g)
 -- the file alone
 abbrev pub givenFile : List ℕ → Given
 givenFile f =
-    record { file = f; starts = []; sides = []; counted = []; tables = []; buffers = []; inputs = []; received = [] }
+    record { coder = file f; starts = []; sides = []; counted = []; tables = []; buffers = []; inputs = []; received = [] }
 
 -- the coder run: one output letter for each input letter
 abbrev pub givenRun : List ℕ → ℕ → List ℕ → List ℕ → List Bytes → Given
 givenRun f s xs before more =
     record {
-      file = f;
+      coder = file f;
       starts = s ∷ [];
       sides = [];
       counted = [];
@@ -117,7 +143,7 @@ givenRun f s xs before more =
 abbrev pub givenSearch : List ℕ → List ℕ → List Bytes → Given
 givenSearch f before more =
     record {
-      file = f;
+      coder = file f;
       starts = [];
       sides = [];
       counted = [];
@@ -131,7 +157,7 @@ givenSearch f before more =
 abbrev pub givenCheck : List ℕ → LoopedPair → List Bytes → Given
 givenCheck f p more =
     record {
-      file = f;
+      coder = file f;
       starts = p .s ∷ p .t ∷ [];
       sides = [];
       counted = record { has = length (p .bytes); wants = 2 * letters p } ∷ [];
@@ -145,7 +171,7 @@ givenCheck f p more =
 abbrev pub givenWindow : List ℕ → Window → List ℕ → List Bytes → Given
 givenWindow f w received more =
     record {
-      file = f;
+      coder = file f;
       starts = [];
       sides = w .before ∷ w .after ∷ [];
       counted = record { has = length received; wants = size w } ∷ [];
@@ -159,7 +185,7 @@ givenWindow f w received more =
 abbrev pub givenString : List ℕ → Window → List ℕ → List ℕ → List Bytes → Given
 givenString f w received before more =
     record {
-      file = f;
+      coder = file f;
       starts = [];
       sides = w .before ∷ w .after ∷ [];
       counted = [];
@@ -173,12 +199,26 @@ givenString f w received before more =
 abbrev pub givenTable : List ℕ → Window → List ℕ → List Bytes → Given
 givenTable f w before more =
     record {
-      file = f;
+      coder = file f;
       starts = [];
       sides = w .before ∷ w .after ∷ [];
       counted = [];
       tables = w ∷ [];
       buffers = record { has = length before; wants = tableSize (outputsOf f) w } ∷ more;
+      inputs = [];
+      received = [];
+    }
+
+-- the writer: no file, but counts and entry bytes, and a buffer for the file
+abbrev pub givenWrite : ℕ → ℕ → ℕ → List ℕ → List ℕ → List Bytes → Given
+givenWrite n i o entries before more =
+    record {
+      coder = parts n i o entries;
+      starts = [];
+      sides = [];
+      counted = [];
+      tables = [];
+      buffers = record { has = length before; wants = length (fileOf n i o entries) } ∷ more;
       inputs = [];
       received = [];
     }

@@ -11,12 +11,12 @@ use Rattle.running.specs.declared.RunResult as run
 use Rattle.values.specs.Window.{window}
 use Rattle.values.specs.declared.Window.{Window}
 use Rattle.values.specs.declared.Order.{Order}
+use Rattle.values.specs.declared.CountResult.{CountResult}
+use Rattle.values.specs.declared.CountResult.the-variants.{Done}
 use Rattle.search.specs.Search.{SearchPromise}
 use Rattle.search.specs.declared.Verdict.the-variants.{Least}
 use Rattle.search.specs.declared.SearchResult.the-variants.{Found}
 use Rattle.decoder.specs.Places.{places, StringPromise}
-use Rattle.decoder.specs.declared.CountResult.{CountResult}
-use Rattle.decoder.specs.declared.CountResult.the-variants.{Done}
 use Rattle.layout.specs.Layout.{resultBytes, fieldAt}
 use Rattle.lowhenita.specs.Host.{RunHosted, SearchHosted, DecodeHosted}
 

@@ -19,14 +19,15 @@ use Rattle.values.specs.Order.{defaultOrder}
 use Rattle.values.specs.declared.Order.{Order}
 use Rattle.values.specs.declared.Order.the-variants.{FewestLetters}
 use Rattle.values.specs.Pair.{loopedPair}
+use Rattle.values.specs.declared.CountResult.{CountResult}
+use Rattle.values.specs.declared.CountResult.the-variants.{Done}
 use Rattle.fitting.specs.declared.Answer.{Answer}
 use Rattle.fitting.specs.declared.Answer.the-variants.{Letter, None, Several}
 use Rattle.decoder.specs.Window.{WindowPromise}
 use Rattle.decoder.specs.Table.{TablePromise}
 use Rattle.decoder.specs.declared.WindowResult.{WindowResult}
 use Rattle.decoder.specs.declared.WindowResult.the-variants.{Answered}
-use Rattle.decoder.specs.declared.CountResult.{CountResult}
-use Rattle.decoder.specs.declared.CountResult.the-variants.{Done}
+use Rattle.writer.specs.Write.{WritePromise}
 use Rattle.search.specs.Search.{wanted, SearchPromise}
 use Rattle.search.specs.declared.Verdict.the-variants.{Least, NoDecoder}
 use Rattle.search.specs.declared.SearchResult.{SearchResult}
@@ -38,6 +39,8 @@ use Rattle.checker.specs.declared.CheckResult.the-variants.{Checked}
 pub data Claim : Type 0 where
   -- the reader gives these counts
   counts : ℕ → ℕ → ℕ → Claim
+  -- the writer, given these counts and entries, writes the file
+  written : ℕ → ℕ → ℕ → List ℕ → Claim
   -- the search in this order reports this window
   window : Order → ℕ → ℕ → Claim
   -- the search in any order says "no decoder" with the looped pair of three letters that has these start states and bytes, and the checker
@@ -59,6 +62,9 @@ pair s t bytes = record { s = s; t = t; back-loop = 1; lead-in = 0; lead-out = 0
 -- What each claim says of a file; of the calls that write, for lent buffers that are long enough.
 abbrev pub Holds : List ℕ → Claim → Type 0
 Holds f (counts n i o) = (r : Header) → r ≡ headerOf f → r ≡ Counts n i o
+Holds f (written n i o entries) =
+    (before : List ℕ) (r : CountResult) (after : List ℕ) → length f ≤ length before → WritePromise n i o entries before r after →
+    (r ≡ Done (length f)) × (after ≡ f ++ drop (length f) before)
 Holds f (window o b a) =
     (before : List ℕ) (r : SearchResult) (after : List ℕ) → wanted ≤ length before → SearchPromise o f before r after →
     (r ≡ Found (Least (values.window b a))) × (after ≡ before)
@@ -85,7 +91,7 @@ starred =
     -- A, running parity
     record {
       file = 1 ∷ 0 ∷ 11 ∷ 2 ∷ 2 ∷ 2 ∷ 0 ∷ 0 ∷ 1 ∷ 1 ∷ 1 ∷ 1 ∷ 0 ∷ 0 ∷ [];
-      claims = counts 2 2 2 ∷ window defaultOrder 1 0 ∷ window FewestLetters 1 0 ∷ table 1 0 (0 ∷ 1 ∷ 1 ∷ 0 ∷ []) ∷ run 0 (1 ∷ 1 ∷ 0 ∷ []) (1 ∷ 0 ∷ 0 ∷ []) 0 ∷ [];
+      claims = counts 2 2 2 ∷ written 2 2 2 (0 ∷ 0 ∷ 1 ∷ 1 ∷ 1 ∷ 1 ∷ 0 ∷ 0 ∷ []) ∷ window defaultOrder 1 0 ∷ window FewestLetters 1 0 ∷ table 1 0 (0 ∷ 1 ∷ 1 ∷ 0 ∷ []) ∷ run 0 (1 ∷ 1 ∷ 0 ∷ []) (1 ∷ 0 ∷ 0 ∷ []) 0 ∷ [];
     } ∷
     -- B, one state
     record { file = 1 ∷ 0 ∷ 7 ∷ 1 ∷ 2 ∷ 2 ∷ 0 ∷ 0 ∷ 0 ∷ 1 ∷ []; claims = window defaultOrder 0 0 ∷ window FewestLetters 0 0 ∷ [] } ∷

@@ -1,4 +1,4 @@
-// What the calls are given and give: a window, an order of windows, a looped pair.
+// What the calls are given and give: a window, an order of windows, a looped pair, a number of bytes.
 pub mod inner; // inner.rt: the comparison of two windows; no public calls
 
 // A window: how many letters before the present one and after it.
@@ -27,4 +27,10 @@ pub struct LoopedPair {
     pub lead_in: usize,
     pub lead_out: usize,
     pub forward_loop: usize,
+}
+
+// What a call that writes bytes returns: the refusal's number, or how many bytes it wrote.
+pub enum CountResult {
+    Refused(usize),
+    Done { count: usize },
 }

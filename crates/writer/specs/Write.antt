@@ -1,0 +1,54 @@
+-- The writer of coder files: its refusal, its result and what it leaves in the lent buffer (document 02, 3/13).
+use Prim.Native.Nat.{ℕ, _+_, _<_, _≤_}
+use mathlib.Core.Path.{_≡_}
+use mathlib.Core.Bool.{Bool, true, not, _&&_}
+use mathlib.Core.List.{List, [], _∷_, _++_}
+use lib.ListN.{length, drop}
+use lib.Dec.{leb}
+use Rattle.coder.specs.BigEndian.{bigEndian}
+use Rattle.coder.specs.Refusal.{refuse, first, answer}
+use Rattle.coder.specs.File.{fileOf, entriesRefusal}
+use Rattle.values.specs.declared.CountResult.{CountResult}
+use Rattle.values.specs.declared.CountResult.the-variants.{Refused, Done}
+
+-- The refusal, in checking order: 4 to 6 of the counts and the entry bytes, then 11 (some lent buffer is too short). Whether all lent
+-- buffers are long enough is an argument, since a call may lend more than one.
+unfoldable pub writeRefusal : ℕ → ℕ → ℕ → List ℕ → Bool → ℕ
+writeRefusal n i o entries fits = first (entriesRefusal n i o entries) (refuse (not fits) 11 0)
+
+-- The file is written into a buffer of so many bytes; `others` says whether the other lent buffers are long enough.
+abbrev pub writeRefusalIn : ℕ → ℕ → ℕ → List ℕ → ℕ → Bool → ℕ
+writeRefusalIn n i o entries room others = writeRefusal n i o entries (leb (length (fileOf n i o entries)) room && others)
+
+-- What a call that writes a file returns and leaves in the lent buffer, which held `before` at the call, k being its refusal ("Numbers of
+-- refusal", the sentences on refused calls, on bytes past what is written and on counts): the refusal and the buffer as it was; or the
+-- number of bytes written, and the file with the buffer's old bytes after it.
+pub record FilePromise (k : ℕ) (file before : List ℕ) (r : CountResult) (after : List ℕ) : Type 0 where
+  pub result : r ≡ answer k (λ j. Refused j) (Done (length file))
+  pub bytes : after ≡ answer k (λ j. before) (file ++ drop (length file) before)
+
+-- The writer's promise: the file of the counts and the entry bytes.
+abbrev pub WritePromise : ℕ → ℕ → ℕ → List ℕ → List ℕ → CountResult → List ℕ → Type 0
+WritePromise n i o entries before r after =
+    FilePromise (writeRefusalIn n i o entries (length before) true) (fileOf n i o entries) before r after
+
+-- what the checked part asks: no refusal applies to the counts and the entry bytes, and the buffer has room for the file
+pub record WriteAsked (n i o : ℕ) (entries before : List ℕ) : Type 0 where
+  pub none : entriesRefusal n i o entries ≡ 0
+  pub room : length (fileOf n i o entries) ≤ length before
+
+-- what it gives: the number of bytes, and the bytes
+pub record FileGiven (file before : List ℕ) (count : ℕ) (after : List ℕ) : Type 0 where
+  pub counted : count ≡ length file
+  pub bytes : after ≡ file ++ drop (length file) before
+
+-- The first six bytes of the file of three counts and so many entry bytes.
+abbrev pub headerBytes : ℕ → ℕ → ℕ → ℕ → List ℕ
+headerBytes n i o size = 1 ∷ bigEndian 2 (3 + size) ++ (n ∷ i ∷ o ∷ [])
+
+-- each count is a byte, and the count field has two
+pub record HeaderAsked (n i o size : ℕ) : Type 0 where
+  pub states : n < 256
+  pub inputs : i < 256
+  pub outputs : o < 256
+  pub count : 3 + size < 65536

@@ -1,0 +1,61 @@
+// No public calls: the writer's refusal, and the file of a checked call.
+ghost use mathlib.Core.Path.{_≡_};
+ghost use Rattle.coder.specs.File.{fileOf};
+ghost use Rattle.writer.specs.Write.{writeRefusalIn, headerBytes, HeaderAsked, WriteAsked, FileGiven};
+use coder::inner::file::entries_refusal;
+use placing::inner::put;
+
+// The refusal of a file to be written into a buffer of `room` bytes, or 0. `others` says whether all other lent buffers are long enough.
+pub fn refusal(
+    states: usize,
+    inputs: usize,
+    outputs: usize,
+    entries: &[u8],
+    room: usize,
+    others: bool,
+) -> usize
+    ensures { λ r. ⌜ r ≡ writeRefusalIn states inputs outputs (now (entries .entry)) room others ⌝ }
+{
+    let k = entries_refusal(states, inputs, outputs, entries);
+    if k != 0 {
+        return k;
+    }
+    if 6 + entries.len() <= room {
+        if others {
+            return 0;
+        }
+    }
+    11
+}
+
+// The first six bytes of a file with `size` entry bytes: version, count field and counts.
+fn header(states: usize, inputs: usize, outputs: usize, size: usize) -> [u8; 6]
+    requires { ⌜ HeaderAsked states inputs outputs size ⌝ }
+    ensures { λ r. ⌜ r ≡ headerBytes states inputs outputs size ⌝ }
+{
+    let count = 3 + size;
+    [
+        1u8,
+        (count / 256) as u8,
+        (count % 256) as u8,
+        states as u8,
+        inputs as u8,
+        outputs as u8,
+    ]
+}
+
+// Writes the file, in a call that is not refused, and returns the number of its bytes.
+pub fn checked(
+    states: usize,
+    inputs: usize,
+    outputs: usize,
+    entries: &[u8],
+    file: &mut [u8],
+) -> usize
+    requires { ⌜ WriteAsked states inputs outputs (now entries) (now file) ⌝ }
+    ensures { λ r. ⌜ FileGiven (fileOf states inputs outputs (now (entries .entry))) (now (file .entry)) r (now (file .exit)) ⌝ }
+{
+    let first = header(states, inputs, outputs, entries.len());
+    let at = put(file, 0, &first[..]);
+    put(file, at, entries)
+}
