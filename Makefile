@@ -1,6 +1,6 @@
 # make test: the gate. make check: the same without the must-fail edits, and what is proved already is not proved again.
 # make report: builds the program and runs it on an example. make lib: the static library for a host in C, with include/lowhenita.h.
-# make examples: the example host, run on an example. make target/lowhenita.pc: the pkg-config file, nothing is proved for it.
+# make examples: the example hosts, run on an example. make target/lowhenita.pc: the pkg-config file, nothing is proved for it.
 # make install PREFIX=..: library, header, program, manual page, pkg-config file. make uninstall PREFIX=..: removes these files.
 # make bench: the library beside plain C. make clean: removes what was built.
 PREFIX = /usr/local
@@ -32,11 +32,16 @@ lib:
 examples: lib
 	@for c in 'gcc -std=c99' 'clang -std=c99' 'g++ -x c++' 'clang++ -x c++'; do \
 	  if command -v $${c%% *} > /dev/null; then \
-	    echo "$$c -Wall -Wextra -Werror examples/decode.c"; \
-	    $$c -Wall -Wextra -Werror -O2 -Iinclude -c examples/decode.c -o target/decode.o || exit 1; \
+	    for host in decode write; do \
+	      echo "$$c -Wall -Wextra -Werror examples/$$host.c"; \
+	      $$c -Wall -Wextra -Werror -O2 -Iinclude -c examples/$$host.c -o target/$$host.o || exit 1; \
+	    done; \
 	  fi; \
 	done
-	$(CC) -std=c99 -Wall -Wextra -Werror -O2 -Iinclude examples/decode.c target/staticlib/liblowhenita.a -o target/decode
+	for host in decode write; do \
+	  $(CC) -std=c99 -Wall -Wextra -Werror -O2 -Iinclude examples/$$host.c target/staticlib/liblowhenita.a -o target/$$host || exit 1; \
+	done
+	target/write 2 2 2 0/0 1/1 1/1 0/0 | cmp - examples/A.coder
 	target/decode examples/A.coder 1 1 0 1
 
 # Written anew each time: PREFIX may have changed.

@@ -4,12 +4,11 @@
  * Link with liblowhenita.a, which `make lib` writes to target/staticlib/. docs/c-interface.md has the layout and an example for
  * each call.
  *
- * A byte string is a pointer and a length. A coder is given as the bytes of its coder file (docs/coder-file.md), which lowhenita_write
- * makes from its counts and entries. Each call returns 0,
- * or the number of the first refusal that applies (docs/refusals.md). A refused call leaves every buffer as it was. A call that
- * returns 0 writes its results into `result`, in fields of 8 bytes, big-endian: field k is bytes 8 k to 8 k + 7. `result` has at
- * least LOWHENITA_RESULT_BYTES bytes, or the call is refused with 11. Bytes past what a call writes, in `result` and in any other
- * buffer, stay as they were.
+ * A byte string is a pointer and a length. A coder is given as the bytes of its coder file (docs/coder-file.md); lowhenita_write makes
+ * the file of counts and entries. Each call returns 0, or the number of the first refusal that applies (docs/refusals.md). A refused
+ * call leaves every buffer as it was. A call that returns 0 writes its results into `result`, in fields of 8 bytes, big-endian: field k
+ * is bytes 8 k to 8 k + 7. `result` has at least LOWHENITA_RESULT_BYTES bytes, or the call is refused with 11. Bytes past what a call
+ * writes, in `result` and in any other buffer, stay as they were.
  *
  * The host owes:
  *   - each pointer is valid for its length: readable where it points to const, readable and writable otherwise;
@@ -194,10 +193,9 @@ size_t lowhenita_table(const uint8_t *file, size_t file_len,
                        uint8_t *result, size_t result_len);
 
 /*
- * Writes the coder file of `states`, `inputs` and `outputs`, which are compared whole, and of `entries`, two bytes each (next state, output
- * letter), the entries of state 0 first, in the order of the input letters. The file stands at the front of `file`, which has at least
- * 6 + entries_len bytes; LOWHENITA_MAX_FILE_BYTES are enough for any. It is the one file that these counts and entries have: bytes 3 to 5
- * and those from byte 6 on of any accepted file give that file back.
+ * Writes the coder file of N = `states`, I = `inputs`, O = `outputs` and `entries`: two bytes for each (next state, output letter), those
+ * of state 0 first, in the order of the input letters. The file goes to the front of `file`; LOWHENITA_MAX_FILE_BYTES are enough for
+ * any. It is the one file of these counts and entries: of any accepted file, bytes 3 to 5 and those from byte 6 on give that file.
  * Field 0: the number of bytes written, 6 + entries_len.
  * Refusals, in checking order: 4, 5 (entries_len is not 2 * states * inputs), 6, 11 (file too short, or result).
  */

@@ -89,6 +89,18 @@ static size_t do_plain_table(void)
     return plain_table(file.bytes, file.len, before, after, theirs, sizeof theirs, &plain_count);
 }
 
+static size_t do_write(void)
+{
+    return lowhenita_write(file.bytes[3], file.bytes[4], file.bytes[5], file.bytes + 6, file.len - 6, mine, sizeof mine,
+                           result, sizeof result);
+}
+
+static size_t do_plain_write(void)
+{
+    return plain_write(file.bytes[3], file.bytes[4], file.bytes[5], file.bytes + 6, file.len - 6, theirs, sizeof theirs,
+                       &plain_count);
+}
+
 /* Seconds for `times` calls. */
 static double timed(size_t (*work)(void), int times)
 {
@@ -115,7 +127,7 @@ static void compare(const char *name, size_t (*library)(void), size_t (*plain)(v
         x = timed(plain, times);
         p = x < p ? x : p;
     }
-    printf("%-58s %10.2f us %10.2f us", name, l / times * 1e6, p / times * 1e6);
+    printf(l / times < 1e-6 ? "%-58s %10.3f us %10.3f us" : "%-58s %10.2f us %10.2f us", name, l / times * 1e6, p / times * 1e6);
     if (of)
         printf(" %8.1f M/s", of * (double)times / l * 1e-6);
     else
@@ -211,6 +223,15 @@ static void bench_table(const char *name, size_t b, size_t a)
         memcmp(mine, theirs, plain_count) != 0)
         unequal(name);
     compare(name, do_table, do_plain_table, plain_count);
+}
+
+/* The coder's own file, written from its counts and entries. */
+static void bench_write(const char *name)
+{
+    if (do_write() != 0 || do_plain_write() != 0 || field(0) != plain_count || plain_count != file.len
+        || memcmp(mine, theirs, plain_count) != 0 || memcmp(mine, file.bytes, plain_count) != 0)
+        unequal(name);
+    compare(name, do_write, do_plain_write, 0);
 }
 
 /* Entries at random: next states and output letters all equally likely. */
@@ -313,9 +334,11 @@ int main(void)
     bench_run("run: A, 20,000 letters");
     bench_strings("A");
     bench_table("table: A, 65,536 bytes", 8, 7);
+    bench_write("write: A, 14 bytes");
     any_coder(16, 16, 64);
     bench_run("run: 16 states, 16 inputs, 64 outputs, 20,000 letters");
     bench_strings("16 states, 16 inputs, 64 outputs");
+    bench_write("write: 16 states, 16 inputs, 64 outputs, 518 bytes");
     any_coder(16, 16, 16);
     bench_table("table: 16 states, 16 inputs, 16 outputs, 65,536 bytes", 2, 1);
     any_coder(16, 16, 4);

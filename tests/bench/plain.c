@@ -1,4 +1,4 @@
-/* Plain C versions of run, search, string decoder and table. Sets of states and of letters are machine
+/* Plain C versions of run, search, string decoder, table and writer. Sets of states and of letters are machine
    words, sets of pairs of states 16 of them. */
 #include "plain.h"
 
@@ -70,6 +70,31 @@ size_t plain_run(const uint8_t *file, size_t file_len, size_t start, const uint8
     }
     *count = input_len;
     *end = s;
+    return 0;
+}
+
+size_t plain_write(size_t states, size_t inputs, size_t outputs, const uint8_t *entries,
+                   size_t entries_len, uint8_t *file, size_t file_len, size_t *count)
+{
+    size_t k;
+
+    if (states < 1 || states > 16 || inputs < 1 || inputs > 16 || outputs < 1 || outputs > 64)
+        return 4;
+    if (entries_len != 2 * states * inputs)
+        return 5;
+    for (k = 0; k < entries_len; k += 2)
+        if (entries[k] >= states || entries[k + 1] >= outputs)
+            return 6;
+    if (file_len < 6 + entries_len)
+        return 11;
+    file[0] = 1;
+    file[1] = (uint8_t)((3 + entries_len) >> 8);
+    file[2] = (uint8_t)(3 + entries_len);
+    file[3] = (uint8_t)states;
+    file[4] = (uint8_t)inputs;
+    file[5] = (uint8_t)outputs;
+    memcpy(file + 6, entries, entries_len);
+    *count = 6 + entries_len;
     return 0;
 }
 

@@ -15,6 +15,9 @@ size_t plain_decode(const uint8_t *file, size_t file_len, size_t before, size_t 
 size_t plain_table(const uint8_t *file, size_t file_len, size_t before, size_t after,
                    uint8_t *table, size_t table_len, size_t *count);
 
+size_t plain_write(size_t states, size_t inputs, size_t outputs, const uint8_t *entries,
+                   size_t entries_len, uint8_t *file, size_t file_len, size_t *count);
+
 /* The verdict: a window, or the first looped pair with its letters in the lent buffer. */
 typedef struct plain_verdict {
     int is_pair;

@@ -10,7 +10,7 @@ enum { REFUSALS = 13 };
 
 /* Running parity: 2 states, 2 input letters, 2 output letters. */
 static const uint8_t parity[] = {1, 0, 11, 2, 2, 2, 0, 0, 1, 1, 1, 1, 0, 0};
-static uint8_t file[sizeof parity], letters[LOWHENITA_SEARCH_BYTES], bytes[LOWHENITA_MAX_TABLE_BYTES + 1];
+static uint8_t file[sizeof parity], written[sizeof parity], letters[LOWHENITA_SEARCH_BYTES], bytes[LOWHENITA_MAX_TABLE_BYTES + 1];
 static uint8_t result[LOWHENITA_RESULT_BYTES];
 static unsigned long passed, failed;
 
@@ -63,6 +63,26 @@ static size_t search_changed(size_t place, uint8_t byte, size_t len)
     memcpy(file, parity, sizeof file);
     file[place] = byte;
     return lowhenita_search(file, len, letters, sizeof letters, result, sizeof result);
+}
+
+/* The writer on the parity coder's counts and entries, with another number of states, of entry bytes and of bytes for the file. */
+static size_t write_changed(size_t states, size_t entries, size_t room)
+{
+    return lowhenita_write(states, 2, 2, parity + 6, entries, written, room, result, sizeof result);
+}
+
+static void writing(void)
+{
+    const size_t n = sizeof parity;
+
+    expect_refusal(write_changed(2, n - 6, n), 0);
+    expect(lowhenita_field(result, 0) == n, "bytes written", n);
+    expect(memcmp(written, parity, n) == 0, "the file of", n);
+    expect_refusal(write_changed(17, n - 6, n), LOWHENITA_REFUSED_COUNTS);
+    expect_refusal(write_changed(2 + ((size_t)1 << 32), n - 6, n), LOWHENITA_REFUSED_COUNTS);
+    expect_refusal(write_changed(2, n - 7, n), LOWHENITA_REFUSED_COUNT_FIELD);
+    expect_refusal(lowhenita_write(2, 2, 1, parity + 6, n - 6, written, n, result, sizeof result), LOWHENITA_REFUSED_ENTRY);
+    expect_refusal(write_changed(2, n - 6, n - 1), LOWHENITA_REFUSED_SHORT_BUFFER);
 }
 
 static void refusals(void)
@@ -118,6 +138,7 @@ int main(int argc, char **argv)
     fields();
     texts();
     refusals();
+    writing();
     printf("%lu passed, %lu failed\n", passed, failed);
     return failed == 0 && passed > 0 ? 0 : 1;
 }

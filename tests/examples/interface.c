@@ -102,6 +102,22 @@ static void table(void)
     HOLDS(lowhenita_table(a, sizeof a, 1, 0, out, 3, result, 64) == LOWHENITA_REFUSED_SHORT_BUFFER);
 }
 
+static void writing(void)
+{
+    static const uint8_t entries[] = {0, 0, 1, 1, 1, 1, 0, 0};
+    static uint8_t file[LOWHENITA_MAX_FILE_BYTES];
+
+    memset(file, 9, sizeof file);
+    HOLDS(lowhenita_write(2, 2, 2, entries, 8, file, sizeof file, result, 64) == 0);
+    HOLDS(memcmp(file, a, sizeof a) == 0);
+    HOLDS(file[sizeof a] == 9);
+    HOLDS(lowhenita_field(result, 0) == 14);
+    HOLDS(lowhenita_write(2, 2, 2, entries, 8, file, 13, result, 64) == LOWHENITA_REFUSED_SHORT_BUFFER);
+    HOLDS(lowhenita_write(2, 2, 2, entries, 7, file, 13, result, 64) == LOWHENITA_REFUSED_COUNT_FIELD);
+    HOLDS(lowhenita_write(g[3], g[4], g[5], g + 6, sizeof g - 6, file, sizeof file, result, 64) == 0);
+    HOLDS(lowhenita_field(result, 0) == sizeof g && memcmp(file, g, sizeof g) == 0);
+}
+
 int main(void)
 {
     run();
@@ -110,6 +126,7 @@ int main(void)
     check();
     window();
     table();
+    writing();
     printf("%u passed, %u failed\n", passed, failed);
     return failed == 0 && passed > 0 ? 0 : 1;
 }

@@ -11,9 +11,9 @@
 
 /* OWN: the bytes below its mark that the measuring function may use itself, and leaves unpainted. */
 enum { ROOM = 1 << 18, OWN = 256, PAINT = 0xA5, STRING = 1000 };
-enum { RUN, SEARCH, DECODE, CHECK, WINDOW, TABLE, CALLS };
+enum { RUN, SEARCH, DECODE, CHECK, WINDOW, TABLE, WRITE, CALLS };
 
-static const char *const names[CALLS] = {"run", "search", "decode", "check", "window", "table"};
+static const char *const names[CALLS] = {"run", "search", "decode", "check", "window", "table", "write"};
 static uint8_t *stack;
 static uint8_t letters[LOWHENITA_SEARCH_BYTES], bytes[LOWHENITA_MAX_TABLE_BYTES], result[LOWHENITA_RESULT_BYTES];
 static uint8_t zeros[STRING];
@@ -44,6 +44,8 @@ static size_t one_call(void)
         return lowhenita_check(f, len, pair[0], pair[1], pair[2], pair[3], pair[4], pair[5], letters, 2 * n, result, sizeof result);
     case WINDOW:
         return lowhenita_window(f, len, before, after, zeros, before + 1 + after, result, sizeof result);
+    case WRITE:
+        return lowhenita_write(f[3], f[4], f[5], f + 6, len - 6, bytes, sizeof bytes, result, sizeof result);
     default:
         return lowhenita_table(f, len, before, after, bytes, sizeof bytes, result, sizeof result);
     }

@@ -59,6 +59,8 @@ static void all_calls(const uint8_t *file, size_t len, size_t past)
     lend();
     refusal = lowhenita_table(file, len, 1, 0, bytes, ROOM, result, LOWHENITA_RESULT_BYTES);
     look(refusal, (size_t)lowhenita_field(result, 0) + past, 1);
+    lend();
+    look(lowhenita_write(file[3], file[4], file[5], file + 6, len - 6, bytes, ROOM, result, LOWHENITA_RESULT_BYTES), len, 1);
 }
 
 int main(int argc, char **argv)
