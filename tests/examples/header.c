@@ -1,5 +1,5 @@
 /* The header: fields of known bytes; a sentence of its own for each refusal; and each refusal's name against the number that the library
-   returns for a call with that one fault. C99 and C++. The last line is 'N passed, M failed'.
+   returns for a call with that one fault, of the writer too. C99 and C++. The last line is 'N passed, M failed'.
    With an argument: number, sentence and name of each refusal, as rows of the first table of docs/refusals.md. */
 #include "lowhenita.h"
 

@@ -9,6 +9,7 @@
 #include <string.h>
 
 static lent file_buffer, bytes_buffer, lent_buffer, result_buffer;
+static int again; /* the call under way is made by write_again */
 static uint8_t wanted_lent[LENT_ROOM], wanted_result[LENT_ROOM];
 
 void open_buffers(void)
@@ -93,7 +94,8 @@ static reply call_and_compare(const arguments *a, size_t wanted, size_t seed)
     reply got;
 
     now.comparisons++;
-    now.wanted[a->call][wanted]++;
+    if (!again)
+        now.wanted[a->call][wanted]++;
     file = or_null(lent_copy(&file_buffer, a->file, a->file_len), a->file_len);
     bytes = or_null(lent_copy(&bytes_buffer, a->bytes, a->bytes_len), a->bytes_len);
     lent = or_null(lent_fill(&lent_buffer, a->lent_len, seed), a->lent_len);
@@ -112,8 +114,9 @@ static reply call_and_compare(const arguments *a, size_t wanted, size_t seed)
     return got;
 }
 
-/* The file of a call is written again from its parts, once: bytes 3 to 5 and those from byte 6 on. An
-   accepted file has to come out as it is; of any other the enumerator says what is wanted. */
+/* The file of a call is written again from its parts: bytes 3 to 5 and those from byte 6 on. An
+   accepted file has to come out as it is; of any other the enumerator says what is wanted. Equal
+   files that follow each other are written once. */
 static void write_again(const arguments *a)
 {
     static uint8_t latest[LENT_ROOM];
@@ -134,10 +137,12 @@ static void write_again(const arguments *a)
     w.bytes_len = latest_len - 6;
     w.lent_len = latest_len + latest_len % 3;
     w.result_len = RESULT_BYTES;
+    again = 1;
     if (refusal_of_file(latest, latest_len) == 0)
         compare_known(&w, latest, latest_len);
     else
         compare(&w);
+    again = 0;
 }
 
 reply compare(const arguments *a)

@@ -18,8 +18,7 @@ static void refused(const uint8_t *file, size_t len, size_t lent, size_t number)
     a.file_len = len;
     a.lent_len = lent;
     a.result_len = RESULT_BYTES;
-    show_call(&a);
-    known_value("the number of refusal", refusal_of_call(&a), number);
+    known_refusal(&a, number);
     text_file(file, len);
     for (order = 0; order < ORDERS; order++)
         text_refusal((enum order)order, lent, number);

@@ -1,5 +1,5 @@
 /* The writer: both sides of each of its refusals, and random coders written and read back. What a
-   host in C writes is read by the reader of the library's own calls, which the program cases makes. */
+   host in C writes is read by the library's own reader, in cases for the program cases. */
 #include "calls.h"
 #include "case_texts.h"
 #include "groups.h"
@@ -17,12 +17,16 @@ static arguments parts_of(const coder_file *f)
     return a;
 }
 
-/* From C and by the library's own call. */
+/* From C, and in a case by the library's own call: this number, or the file that C has written. */
 static void known_both(const arguments *a, size_t number)
 {
-    known_refusal(a, number);
+    reply got = compare(a);
+
+    known_value("the number returned", got.returned, number);
     if (number != 0)
         text_writer_refused(a->counts, a->bytes, a->bytes_len, a->lent_len, number);
+    else
+        text_writer(a->counts, a->bytes, a->bytes_len, a->lent_len, got.lent, 6 + a->bytes_len);
 }
 
 /* ---- both sides of each refusal ---- */
@@ -67,7 +71,8 @@ static void edge_products(void)
     }
 }
 
-/* Every number of entry bytes up to two entries more than there are. */
+/* Every number of entry bytes up to two entries more than there are; with a bad entry besides, for 5
+   comes before 6. */
 static void edge_number(const coder_file *f)
 {
     arguments a = parts_of(f);
@@ -134,6 +139,8 @@ static void written_and_read(const coder_file *f)
     now.coders++;
     written.len = f->len;
     memcpy(written.bytes, got.lent, written.len);
+    if (memcmp(written.bytes, f->bytes, f->len) != 0)
+        return; /* a difference, and counted as one */
     text_file(written.bytes, written.len);
     text_reader(a.counts, f->bytes + 6, f->len - 6);
     text_writer(a.counts, f->bytes + 6, f->len - 6, a.lent_len, f->bytes, f->len);
@@ -157,7 +164,6 @@ void group_writer(void)
         edge_number(&e.file);
         edge_entries(&e.file);
         edge_writer_buffers(&e.file);
-        text_file(NULL, 0);
         written_and_read(&e.file);
         text_file(NULL, 0);
     }

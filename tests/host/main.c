@@ -9,7 +9,8 @@
    and the coders with ties, the first pair; for the other groups nothing.
 
    Cases in named orders (named_orders.c) are written for the examples, all small coders, the small
-   random ones, the chains, and the changed chains of up to 6 states. */
+   random ones, the chains, and the changed chains of up to 6 states; cases of the reader and of the
+   writer (group_writer.c) for the examples and for random coders. */
 #include "case_texts.h"
 #include "coders.h"
 #include "compare.h"

@@ -20,10 +20,10 @@ use Rattle.search.specs.Search.{searchRefusal, wanted}
 use Rattle.search.proofs.Files.{search-accepted}
 use Rattle.checker.specs.Check.{checkRefusal}
 use Rattle.checker.proofs.Checking.{check-accepted}
-use Rattle.writer.specs.Write.{WriteAsked, FileGiven}
+use Rattle.writer.specs.Write.{WriteAsked, FileWritten}
 use Rattle.writer.proofs.Writing.{write-accepted}
 use Rattle.layout.specs.Layout.{resultBytes, withFields}
-use Rattle.lowhenita.specs.Host.{roomy, Hosted, runNumber, searchNumber, BytesGiven, decodeNumber, tableNumber, checkNumber, windowNumber, writeNumber, FileLaid}
+use Rattle.lowhenita.specs.Host.{roomy, Hosted, runNumber, searchNumber, BytesGiven, decodeNumber, tableNumber, checkNumber, windowNumber, writeNumber, FileGiven}
 
 -- ---- the promise of a call
 
@@ -41,8 +41,8 @@ bytes-done g e = record { bytes = g .bytes; fields = rw (g .counted) at e }
 
 -- calls that write a file and put the number of its bytes into field 0
 pub file-done :
-    {file before result after result′ : List ℕ} {count : ℕ} → FileGiven file before count after →
-    result′ ≡ withFields result (count ∷ []) → FileLaid file before result after result′
+    {file before result after result′ : List ℕ} {count : ℕ} → FileWritten file before count after →
+    result′ ≡ withFields result (count ∷ []) → FileGiven file before result after result′
 file-done g e = record { bytes = g .bytes; fields = rw (g .counted) at e }
 
 -- ---- a call that is not refused: what its checked part asks, and a result buffer that is long enough

@@ -138,7 +138,7 @@ abbrev pub writeNumber : ℕ → ℕ → ℕ → List ℕ → List ℕ → List 
 writeNumber n i o entries before result = writeRefusalIn n i o entries (length before) (roomy result)
 
 -- a file at the buffer's front; field 0 is the number of its bytes
-pub record FileLaid (file before result after result′ : List ℕ) : Type 0 where
+pub record FileGiven (file before result after result′ : List ℕ) : Type 0 where
   pub bytes : after ≡ file ++ drop (length file) before
   pub fields : result′ ≡ withFields result (length file ∷ [])
 
@@ -146,4 +146,4 @@ pub record FileLaid (file before result after result′ : List ℕ) : Type 0 whe
 abbrev pub WriteHosted : ℕ → ℕ → ℕ → List ℕ → List ℕ → List ℕ → ℕ → List ℕ → List ℕ → Type 0
 WriteHosted n i o entries before result r after result′ =
     Hosted (writeNumber n i o entries before result) r (BothStay before result after result′)
-    (FileLaid (fileOf n i o entries) before result after result′)
+    (FileGiven (fileOf n i o entries) before result after result′)

@@ -36,17 +36,17 @@ pub written-one :
     Placed before at (bytes ++ (x ∷ [])) (set out place x) next
 written-one out place x next a e = written-then a (record { buffer = refl; end = e })
 
--- one byte more of a word
-pub put-more :
+-- one byte more of a slice
+pub slice-more :
     {before out : List ℕ} {at place : ℕ} (bytes : List ℕ) (i next : ℕ) → i < length bytes → Placed before at (take i bytes) out place →
     next ≡ place + 1 → Placed before at (take (i + 1) bytes) (set out place (getD bytes i 0)) next
-put-more {before} {out} {at} {place} bytes i next l a e = rw (add-one, take-suc bytes i 0 l) (written-one out place (getD bytes i 0) next a e)
+slice-more {before} {out} {at} {place} bytes i next l a e = rw (add-one, take-suc bytes i 0 l) (written-one out place (getD bytes i 0) next a e)
 
--- all of a word
-pub put-all :
+-- all of a slice
+pub slice-all :
     {before out : List ℕ} {at place : ℕ} (bytes : List ℕ) (i : ℕ) → i ≤ length bytes → length bytes ≤ i →
     Placed before at (take i bytes) out place → Placed before at bytes out place
-put-all bytes i l m a = let e : i ≡ length bytes = omega arith in rw (e, take-length bytes) at a
+slice-all bytes i l m a = let e : i ≡ length bytes = omega arith in rw (e, take-length bytes) at a
 
 -- none of one byte, one more, all
 pub fill-none : (before : List ℕ) (at byte : ℕ) → Placed before at (replicate (at - at) byte) before at
@@ -70,11 +70,11 @@ fill-end byte n a = omega (arith, a .end, length-replicate {A = ℕ} n byte)
 pub written-length : {before bytes after : List ℕ} {at next : ℕ} → Placed before at bytes after next → length after ≡ length before
 written-length {before} {bytes} {after} {at} {next} a = ap length (a .buffer) ∙ length-sets before at bytes
 
--- ---- a text at the front of a buffer
+-- ---- bytes at the front of a buffer
 
-pub front-text :
+pub front-bytes :
     {before bytes after : List ℕ} {n : ℕ} → Placed before 0 bytes after n → length bytes ≤ length before → take n after ≡ bytes
-front-text {before} {bytes} {after} {n} a l =
+front-bytes {before} {bytes} {after} {n} a l =
     let e : n ≡ length bytes = omega (arith, a .end) in
     rw (e, a .buffer, sets-eq bytes before 0 (omega arith)) (take-at bytes _ (length bytes) refl)
 
@@ -83,7 +83,7 @@ sets-past before [] at k l = refl
 sets-past before (x ∷ bytes) at k l =
     sets-past (set before at x) bytes (suc at) k (omega arith) ∙ getD-set-other before at k x 0 (λ (e : k ≡ at). omega arith)
 
--- the bytes past the text are as they were
+-- the bytes past those written are as they were
 pub written-past :
     {before bytes after : List ℕ} {at n : ℕ} → Placed before at bytes after n → (k : ℕ) → n ≤ k → getD after k 0 ≡ getD before k 0
 written-past {before} {bytes} {after} {at} {n} a k l = rw (a .buffer) (sets-past before bytes at k (omega (arith, a .end)))

@@ -4,7 +4,7 @@ use mathlib.Core.List.{List}
 use Prim.Native.Nat.{ℕ, zero, suc}
 use native.Mathlib.Omega.{arith}
 use lib.ListN.{length, getD, take, replicate}
-use Rattle.placing.proofs.Placing.{front-text, written-length, written-past}
+use Rattle.placing.proofs.Placing.{front-bytes, written-length, written-past}
 use Rattle.report_text.specs.Report.{ReportPromise}
 use Rattle.report_text.specs.Text.{textBytes, Padded, ReportWritten}
 
@@ -16,7 +16,7 @@ zeros-at (suc n) (suc k) = zeros-at n k
 pub text-promise :
     {f before after : List ℕ} {n : ℕ} → textBytes ≡ length before → ReportWritten f before after n → ReportPromise f (take n after)
 text-promise {f} {before} {after} {n} l w =
-    let e = front-text (w .is) (omega (arith, w .short, w .is .end)) in
+    let e = front-bytes (w .is) (omega (arith, w .short, w .is .end)) in
     rw e (w .right)
 
 pub text-padded :

@@ -75,6 +75,7 @@ module _ (n i o : ℕ) (entries : List ℕ) (e : entriesRefusal n i o entries �
         let p : partOf f ≡ entries = q .part in
         let same : entriesOf f ≡ entries = rw (a .none) at p in
         sym (read-written f (q .bytes) (a .none)) ∙ rw (a .states, a .inputs, a .outputs, same);
+    written = λ before r after room p. write-given n i o entries before (fileOf n i o entries) r after e refl room p;
   }
 
 -- ---- what was written

@@ -49,7 +49,7 @@ use Rattle.checker.specs.declared.CheckResult.{CheckResult}
 use Rattle.checker.specs.declared.CheckResult as check-result
 use Rattle.writer.specs.Write.{WritePromise}
 use Rattle.layout.specs.Layout.{resultBytes, withFields, verdictFields}
-use Rattle.lowhenita.specs.Host.{Hosted, BothStay, RunGiven, RunHosted, VerdictGiven, SearchHosted, BytesGiven, DecodeHosted, TableHosted, JudgementGiven, CheckHosted, AnswerGiven, WindowHosted, FileLaid, WriteHosted}
+use Rattle.lowhenita.specs.Host.{Hosted, BothStay, RunGiven, RunHosted, VerdictGiven, SearchHosted, BytesGiven, DecodeHosted, TableHosted, JudgementGiven, CheckHosted, AnswerGiven, WindowHosted, FileGiven, WriteHosted}
 use Rattle.theorems.specs.Published.{Given, refusalOf, givenFile, givenRun, givenSearch, givenCheck, givenWindow, givenString, givenTable, givenWrite, givenResult}
 use Rattle.theorems.specs.RoundTrip.{LettersComeBack, LettersComeBackFromC}
 use Rattle.theorems.specs.Handed.{Handed, laidRun, laidSearch, laidCount, laidCheck, laidWindow}
@@ -133,7 +133,7 @@ pub record Demand1 : Type 0 where
       (n i o : ℕ) (entries before result : List ℕ) (r : ℕ) (after result′ : List ℕ) →
       WriteHosted n i o entries before result r after result′ →
       Hosted (refusalOf (givenWrite n i o entries before (givenResult result))) r (BothStay before result after result′)
-      (FileLaid (fileOf n i o entries) before result after result′)
+      (FileGiven (fileOf n i o entries) before result after result′)
 
 -- ---- demand 2: the machine of the table runs; the answer goes by what fits; letters come back
 

@@ -73,16 +73,19 @@ ReadWrittenFromC =
 -- ---- one file
 
 -- f is a file of the coder: bytes for which the reader gives these counts and these entries
-pub record FileOf (n i o : ℕ) (entries f : List ℕ) : Type 0 where
+pub record IsFileOf (n i o : ℕ) (entries f : List ℕ) : Type 0 where
   pub bytes : Letters 256 f
   pub counts : headerOf f ≡ Counts n i o
   pub part : partOf f ≡ entries
 
--- there is one, and no other
+-- There is one, and no other; with room in the buffer it is what the writer writes.
 pub record OneFile (n i o : ℕ) (entries : List ℕ) : Type 0 where
   pub file : List ℕ
-  pub is : FileOf n i o entries file
-  pub only : (f : List ℕ) → FileOf n i o entries f → f ≡ file
+  pub is : IsFileOf n i o entries file
+  pub only : (f : List ℕ) → IsFileOf n i o entries f → f ≡ file
+  pub written :
+      (before : List ℕ) (r : CountResult) (after : List ℕ) → length file ≤ length before →
+      WritePromise n i o entries before r after → (r ≡ Done (length file)) × InFront file before after
 
 -- For each coder within the limits: none of the numbers 4 to 6 applies to its counts and entries.
 abbrev pub EachOneFile : Type 0

@@ -78,7 +78,7 @@ pub record Rule : Type 0 where
   pub number : ℕ
   pub applies : Bool
 
--- Numbers 4 to 6, of three counts and the entry bytes. What is counted for number 5 is an argument.
+-- Numbers 4 to 6, of three counts and the entry bytes. Whether the number that 5 is about is right is an argument.
 abbrev pub partsRules : ℕ → ℕ → ℕ → List ℕ → Bool → List Rule
 partsRules n i o entries rightNumber =
     record { number = 4; applies = not (inRange n i o) } ∷

@@ -16,32 +16,32 @@ use Rattle.values.specs.declared.CountResult.{CountResult}
 use Rattle.values.specs.declared.CountResult.the-variants.{Refused, Done}
 use Rattle.placing.specs.Placed.{Placed}
 use Rattle.placing.proofs.Placing.{written-then, written-length}
-use Rattle.writer.specs.Write.{writeRefusal, writeRefusalIn, FilePromise, WritePromise, headerBytes, HeaderAsked, WriteAsked, FileGiven}
+use Rattle.writer.specs.Write.{writeRefusal, writeRefusalIn, FilePromise, WritePromise, firstSix, FirstSixAsked, WriteAsked, FileWritten}
 
 pub length-file : (n i o : ℕ) (entries : List ℕ) → length (fileOf n i o entries) ≡ 6 + length entries
 unfolding bigEndian
 length-file n i o entries = omega arith
 
 -- bytes that were put from the buffer's first place on
-pub file-given :
+pub placed-file :
     {file before after : List ℕ} {count : ℕ} → Placed before 0 file after count → length file ≤ length before →
-    FileGiven file before count after
-file-given {file} {before} {after} {count} p l =
+    FileWritten file before count after
+placed-file {file} {before} {after} {count} p l =
     let e : 0 + length file ≡ length file = omega arith in
     record { counted = p .end ∙ e; bytes = p .buffer ∙ sets-eq file before 0 (omega arith) ∙ ap (λ k. file ++ drop k before) e }
 
 -- the file is its first six bytes and the entries
-file-parts : (n i o : ℕ) (entries : List ℕ) → fileOf n i o entries ≡ headerBytes n i o (length entries) ++ entries
+file-parts : (n i o : ℕ) (entries : List ℕ) → fileOf n i o entries ≡ firstSix n i o (length entries) ++ entries
 unfolding bigEndian
 file-parts n i o entries = refl
 
-length-header : (n i o size : ℕ) → length (headerBytes n i o size) ≡ 6
+length-first-six : (n i o size : ℕ) → length (firstSix n i o size) ≡ 6
 unfolding bigEndian
-length-header n i o size = refl
+length-first-six n i o size = refl
 
 module _ {n i o : ℕ} {entries before : List ℕ} (q : WriteAsked n i o entries before) where
-  pub header-asked : HeaderAsked n i o (length entries)
-  header-asked =
+  pub first-six-asked : FirstSixAsked n i o (length entries)
+  first-six-asked =
       let a = entries-accepted n i o entries (q .none) in
       record {
         states = omega (arith, a .limits .states-high);
@@ -50,18 +50,18 @@ module _ {n i o : ℕ} {entries before : List ℕ} (q : WriteAsked n i o entries
         count = omega (arith, a .size, a .limits .entries-high);
       }
 
-  module _ {h : List ℕ} (e : h ≡ headerBytes n i o (length entries)) where
-    pub header-fits : 0 + length h ≤ length before
-    header-fits = rw (e, length-header n i o (length entries)) (omega (arith, q .room, length-file n i o entries))
+  module _ {h : List ℕ} (e : h ≡ firstSix n i o (length entries)) where
+    pub first-six-fits : 0 + length h ≤ length before
+    first-six-fits = rw (e, length-first-six n i o (length entries)) (omega (arith, q .room, length-file n i o entries))
 
     module _ {middle : List ℕ} {at : ℕ} (a : Placed before 0 h middle at) where
       pub entries-fit : at + length entries ≤ length middle
       entries-fit =
-          let long : length h ≡ 6 = rw (e, length-header n i o (length entries)) in
+          let long : length h ≡ 6 = rw (e, length-first-six n i o (length entries)) in
           omega (arith, q .room, length-file n i o entries, a .end, written-length a)
 
-      pub file-written : {after : List ℕ} {count : ℕ} → Placed middle at entries after count → FileGiven (fileOf n i o entries) before count after
-      file-written {after} {count} b = file-given (rw (e, ← file-parts n i o entries) at (written-then a b)) (q .room)
+      pub file-written : {after : List ℕ} {count : ℕ} → Placed middle at entries after count → FileWritten (fileOf n i o entries) before count after
+      file-written {after} {count} b = placed-file (rw (e, ← file-parts n i o entries) at (written-then a b)) (q .room)
 
 -- a call that writes a file: from what it was told and what its checked part gave to its promise
 module _ {k : ℕ} {file before : List ℕ} where
@@ -69,7 +69,7 @@ module _ {k : ℕ} {file before : List ℕ} where
   file-refused e h = record { result = refused-answer _ _ _ e h; bytes = refused-answer _ _ _ e h }
 
   pub file-done :
-      {count : ℕ} {after : List ℕ} → k ≡ 0 → FileGiven file before count after → FilePromise k file before (Done count) after
+      {count : ℕ} {after : List ℕ} → k ≡ 0 → FileWritten file before count after → FilePromise k file before (Done count) after
   file-done z g = record { result = rw z (ap (λ m. Done m) (g .counted)); bytes = rw z (g .bytes) }
 
 -- a call whose refusal is 0

@@ -38,16 +38,16 @@ pub record WriteAsked (n i o : ℕ) (entries before : List ℕ) : Type 0 where
   pub room : length (fileOf n i o entries) ≤ length before
 
 -- what it gives: the number of bytes, and the bytes
-pub record FileGiven (file before : List ℕ) (count : ℕ) (after : List ℕ) : Type 0 where
+pub record FileWritten (file before : List ℕ) (count : ℕ) (after : List ℕ) : Type 0 where
   pub counted : count ≡ length file
   pub bytes : after ≡ file ++ drop (length file) before
 
 -- The first six bytes of the file of three counts and so many entry bytes.
-abbrev pub headerBytes : ℕ → ℕ → ℕ → ℕ → List ℕ
-headerBytes n i o size = 1 ∷ bigEndian 2 (3 + size) ++ (n ∷ i ∷ o ∷ [])
+abbrev pub firstSix : ℕ → ℕ → ℕ → ℕ → List ℕ
+firstSix n i o size = 1 ∷ bigEndian 2 (3 + size) ++ (n ∷ i ∷ o ∷ [])
 
 -- each count is a byte, and the count field has two
-pub record HeaderAsked (n i o size : ℕ) : Type 0 where
+pub record FirstSixAsked (n i o size : ℕ) : Type 0 where
   pub states : n < 256
   pub inputs : i < 256
   pub outputs : o < 256

@@ -1,7 +1,7 @@
 // No public calls: the writer's refusal, and the file of a checked call.
 ghost use mathlib.Core.Path.{_≡_};
 ghost use Rattle.coder.specs.File.{fileOf};
-ghost use Rattle.writer.specs.Write.{writeRefusalIn, headerBytes, HeaderAsked, WriteAsked, FileGiven};
+ghost use Rattle.writer.specs.Write.{writeRefusalIn, firstSix, FirstSixAsked, WriteAsked, FileWritten};
 use coder::inner::file::entries_refusal;
 use placing::inner::put;
 
@@ -29,9 +29,9 @@ pub fn refusal(
 }
 
 // The first six bytes of a file with `size` entry bytes: version, count field and counts.
-fn header(states: usize, inputs: usize, outputs: usize, size: usize) -> [u8; 6]
-    requires { ⌜ HeaderAsked states inputs outputs size ⌝ }
-    ensures { λ r. ⌜ r ≡ headerBytes states inputs outputs size ⌝ }
+fn first_six(states: usize, inputs: usize, outputs: usize, size: usize) -> [u8; 6]
+    requires { ⌜ FirstSixAsked states inputs outputs size ⌝ }
+    ensures { λ r. ⌜ r ≡ firstSix states inputs outputs size ⌝ }
 {
     let count = 3 + size;
     [
@@ -53,9 +53,9 @@ pub fn checked(
     file: &mut [u8],
 ) -> usize
     requires { ⌜ WriteAsked states inputs outputs (now entries) (now file) ⌝ }
-    ensures { λ r. ⌜ FileGiven (fileOf states inputs outputs (now (entries .entry))) (now (file .entry)) r (now (file .exit)) ⌝ }
+    ensures { λ r. ⌜ FileWritten (fileOf states inputs outputs (now (entries .entry))) (now (file .entry)) r (now (file .exit)) ⌝ }
 {
-    let first = header(states, inputs, outputs, entries.len());
+    let first = first_six(states, inputs, outputs, entries.len());
     let at = put(file, 0, &first[..]);
     put(file, at, entries)
 }
