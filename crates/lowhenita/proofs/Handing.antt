@@ -40,10 +40,10 @@ pub bytes-done :
 bytes-done g e = record { bytes = g .bytes; fields = rw (g .counted) at e }
 
 -- calls that write a file and put the number of its bytes into field 0
-pub file-done :
+pub file-fields :
     {file before result after result′ : List ℕ} {count : ℕ} → FileWritten file before count after →
     result′ ≡ withFields result (count ∷ []) → FileGiven file before result after result′
-file-done g e = record { bytes = g .bytes; fields = rw (g .counted) at e }
+file-fields g e = record { bytes = g .bytes; fields = rw (g .counted) at e }
 
 -- ---- a call that is not refused: what its checked part asks, and a result buffer that is long enough
 

@@ -24,6 +24,7 @@ use Rattle.values.specs.Order.{relationOf, defaultOrder}
 use Rattle.search.specs.Search.{searchRefusal, wanted, Says}
 use Rattle.search.specs.declared.Verdict.{Verdict}
 use Rattle.checker.specs.Check.{checkRefusal}
+use Rattle.placing.specs.Placed.{withFront}
 use Rattle.writer.specs.Write.{writeRefusalIn}
 use Rattle.layout.specs.Layout.{resultBytes, withFields, verdictFields, numberOf}
 
@@ -139,7 +140,7 @@ writeNumber n i o entries before result = writeRefusalIn n i o entries (length b
 
 -- a file at the buffer's front; field 0 is the number of its bytes
 pub record FileGiven (file before result after result′ : List ℕ) : Type 0 where
-  pub bytes : after ≡ file ++ drop (length file) before
+  pub bytes : after ≡ withFront file before
   pub fields : result′ ≡ withFields result (length file ∷ [])
 
 -- The writer for a host (document 02, 3/13).

@@ -176,7 +176,7 @@ pub extern "C" fn lowhenita_write(
     if k != 0 {
         return k;
     }
-    let count = writer::inner::checked(states, inputs, outputs, entries, file);
-    layout::inner::put_one(result, count);
+    let len = writer::inner::checked(states, inputs, outputs, entries, file);
+    layout::inner::put_one(result, len);
     0
 }

@@ -4,9 +4,9 @@ use mathlib.Core.List.{List, [], _∷_, _++_, append-assoc}
 use Prim.Native.Nat.{ℕ, suc, _+_, _-_, _<_, _≤_}
 use native.Mathlib.Numerals.{add-one}
 use native.Mathlib.Omega.{arith}
-use lib.ListN.{length, getD, take, set, replicate, length-append, length-replicate, replicate-append-replicate}
+use lib.ListN.{length, getD, take, drop, set, replicate, length-append, length-replicate, replicate-append-replicate}
 use lib.Seq.{sets, sets-eq, take-at, take-suc, take-length, length-sets, getD-set-other}
-use Rattle.placing.specs.Placed.{Placed}
+use Rattle.placing.specs.Placed.{withFront, Placed}
 
 -- ---- one after the other
 
@@ -72,11 +72,18 @@ written-length {before} {bytes} {after} {at} {next} a = ap length (a .buffer) �
 
 -- ---- bytes at the front of a buffer
 
+pub placed-front :
+    {before bytes after : List ℕ} {n : ℕ} → Placed before 0 bytes after n → length bytes ≤ length before →
+    (n ≡ length bytes) × (after ≡ withFront bytes before)
+placed-front {before} {bytes} {after} {n} a l =
+    let e : 0 + length bytes ≡ length bytes = omega arith in
+    (a .end ∙ e, a .buffer ∙ sets-eq bytes before 0 (omega arith) ∙ ap (λ k. bytes ++ drop k before) e)
+
 pub front-bytes :
     {before bytes after : List ℕ} {n : ℕ} → Placed before 0 bytes after n → length bytes ≤ length before → take n after ≡ bytes
-front-bytes {before} {bytes} {after} {n} a l =
-    let e : n ≡ length bytes = omega (arith, a .end) in
-    rw (e, a .buffer, sets-eq bytes before 0 (omega arith)) (take-at bytes _ (length bytes) refl)
+front-bytes {before} {bytes} a l =
+    let p = placed-front a l in
+    rw (p .0, p .1) (take-at bytes (drop (length bytes) before) (length bytes) refl)
 
 sets-past : (before bytes : List ℕ) (at k : ℕ) → at + length bytes ≤ k → getD (sets before at bytes) k 0 ≡ getD before k 0
 sets-past before [] at k l = refl

@@ -16,13 +16,14 @@ use Rattle.coder.proofs.Accepted.{entries-accepted, file-entries}
 use Rattle.coder.proofs.Inverse.{read-written, written-read, file-bytes}
 use Rattle.values.specs.declared.CountResult.{CountResult}
 use Rattle.values.specs.declared.CountResult.the-variants.{Done}
-use Rattle.writer.specs.Write.{FilePromise, WritePromise}
+use Rattle.placing.specs.Placed.{withFront}
+use Rattle.writer.specs.Write.{FilePromise, WroteFile, WritePromise}
 use Rattle.writer.proofs.Writing.{length-file, write-accepted, write-given}
 use Rattle.layout.specs.Layout.{resultBytes, fieldAt}
 use Rattle.layout.proofs.Reading.{field-at}
 use Rattle.lowhenita.specs.Host.{WriteHosted}
 use Rattle.lowhenita.proofs.Handing.{accepted-write}
-use Rattle.theorems.specs.Files.{Read, ReadsBack, WrittenRead, WrittenReadFromC, InFront, WritesBack, OneFile, ReaderAndWriter}
+use Rattle.theorems.specs.Files.{Read, ReadsBack, WrittenRead, WrittenReadFromC, WritesBack, OneFile, ReaderAndWriter}
 use Rattle.theorems.specs.RoundTrip.{FieldHolds}
 use Rattle.theorems.specs.Handed.{laidCount}
 use Rattle.theorems.proofs.Handing.{given, write-handed}
@@ -107,7 +108,7 @@ written-from-C n i o entries before result after result′ h =
 module _ (f : List ℕ) (bytes : Letters 256 f) (z : fileRefusal f ≡ 0) where
   back :
       (before : List ℕ) (r : CountResult) (after : List ℕ) → length f ≤ length before →
-      WritePromise (statesOf f) (inputsOf f) (outputsOf f) (entriesOf f) before r after → (r ≡ Done (length f)) × InFront f before after
+      WritePromise (statesOf f) (inputsOf f) (outputsOf f) (entriesOf f) before r after → WroteFile f before r after
   back before r after room p =
       write-given (statesOf f) (inputsOf f) (outputsOf f) (entriesOf f) before f r after (file-entries f z) (read-written f bytes z) room p
 
@@ -125,13 +126,13 @@ module _ (f : List ℕ) (bytes : Letters 256 f) (z : fileRefusal f ≡ 0) where
   rewritten-from-C :
       (before result : List ℕ) (r : ℕ) (after result′ : List ℕ) → length f ≤ length before → resultBytes ≤ length result →
       WriteHosted (statesOf f) (inputsOf f) (outputsOf f) (entriesOf f) before result r after result′ →
-      (r ≡ 0) × (fieldAt result′ 0 ≡ length f) × InFront f before after
+      (r ≡ 0) × (fieldAt result′ 0 ≡ length f) × (after ≡ withFront f before)
   rewritten-from-C before result r after result′ room long h =
       let g = write-handed result long (statesOf f) (inputsOf f) (outputsOf f) (entriesOf f) before r after result′ h in
       let b = back before (g .own) after room (g .promised) in
       let few = subst (λ (x : List ℕ). FieldHolds (length x)) (read-written f bytes z) (small _ _ _ _ (file-entries f z)) in
-      let x = first-read result (laidCount (g .own)) (length f) [] (ap laidCount (b .0)) few (g .number) (g .fields) in
-      (x .0, x .1, b .1)
+      let x = first-read result (laidCount (g .own)) (length f) [] (ap laidCount (b .result)) few (g .number) (g .fields) in
+      (x .0, x .1, b .bytes)
 
 pub reader-and-writer : ReaderAndWriter
 reader-and-writer = record {

@@ -52,6 +52,7 @@ use Rattle.decoder.specs.declared.WindowResult.the-variants.{Answered}
 use Rattle.decoder.proofs.Accepting.{window-accepted}
 use Rattle.decoder.proofs.Writing.{written-bytes, written-unique}
 use Rattle.decoder.proofs.Decoding.{startsOf, file-right}
+use Rattle.placing.specs.Placed.{withFront}
 use Rattle.writer.proofs.Writing.{write-given}
 use Rattle.search.specs.Search.{searchRefusal, wanted, Says, FoundVerdict, SearchPromise}
 use Rattle.search.specs.declared.Verdict.{Verdict}
@@ -144,7 +145,7 @@ module _ (f : List ℕ) (z : fileRefusal f ≡ 0) where
       go :
           (o : Order) (r : SearchResult) (u : Verdict) → r ≡ Found u → (before after : List ℕ) →
           Says (relationOf o) (settingOf f) u before after →
-          (r ≡ Found (NoDecoder (loopedPair s t 1 0 0 1))) × (after ≡ bytes ++ drop (length bytes) before)
+          (r ≡ Found (NoDecoder (loopedPair s t 1 0 0 1))) × (after ≡ withFront bytes before)
       go o r (Least w) d before after h =
           absurd
           (excludes (settingOf f) (claimed.pair s t bytes) (first .valid) (any-closed (machineOf f) (total f (accepted f z))) (w .before) (w .after)

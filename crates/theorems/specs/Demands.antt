@@ -1,5 +1,6 @@
 -- The three demands, one record each, over the promises of the calls alone. A buyer begins here: `demand-1`, `demand-2`, `demand-3` and
--- `from-c` of proofs/Demands.antt prove these records, and each call's contract is that it meets its promise for all arguments.
+-- `from-c` of proofs/Demands.antt prove these records, and each call's contract is that it meets its promise for all arguments. That reader
+-- and writer of coder files are inverses stands in Files.antt.
 use Prim.Native.Nat.{ℕ, _+_, _≤_, _<_}
 use mathlib.Core.Path.{_≡_}
 use mathlib.Core.Logic.{_↔_}
@@ -47,6 +48,7 @@ use Rattle.search.specs.declared.SearchResult as search-result
 use Rattle.checker.specs.Check.{CheckedRight, CheckPromise}
 use Rattle.checker.specs.declared.CheckResult.{CheckResult}
 use Rattle.checker.specs.declared.CheckResult as check-result
+use Rattle.placing.specs.Placed.{withFront}
 use Rattle.writer.specs.Write.{WritePromise}
 use Rattle.layout.specs.Layout.{resultBytes, withFields, verdictFields}
 use Rattle.lowhenita.specs.Host.{Hosted, BothStay, RunGiven, RunHosted, VerdictGiven, SearchHosted, BytesGiven, DecodeHosted, TableHosted, JudgementGiven, CheckHosted, AnswerGiven, WindowHosted, FileGiven, WriteHosted}
@@ -101,7 +103,7 @@ pub record Demand1 : Type 0 where
       (n i o : ℕ) (entries before : List ℕ) (r : CountResult) (after : List ℕ) → WritePromise n i o entries before r after →
       Judged (givenWrite n i o entries before []) (λ k. (r ≡ count-result.the-variants.Refused k) × (after ≡ before))
       ((r ≡ count-result.the-variants.Done (length (fileOf n i o entries))) ×
-      (after ≡ fileOf n i o entries ++ drop (length (fileOf n i o entries)) before))
+      (after ≡ withFront (fileOf n i o entries) before))
   -- from C the number is returned, and there is the result buffer besides
   pub run-from-C :
       (f : List ℕ) (s : ℕ) (xs before result : List ℕ) (r : ℕ) (after result′ : List ℕ) →

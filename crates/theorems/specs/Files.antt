@@ -1,16 +1,17 @@
 -- Reader and writer of coder files together (document 02, 3/13): reading what was written gives back the counts and the entries, writing
 -- what was read gives the file, and each coder within the limits has one file. Over the promises of the calls.
 use mathlib.Core.Path.{_≡_}
-use mathlib.Core.List.{List, _++_}
+use mathlib.Core.List.{List}
 use Prim.Native.Nat.{ℕ, _≤_}
-use lib.ListN.{length, take, drop}
+use lib.ListN.{length, take}
 use Rattle.mealy.specs.Machine.{Letters}
 use Rattle.coder.specs.File.{statesOf, inputsOf, outputsOf, entriesOf, entriesRefusal, fileRefusal, headerOf, partOf, EntriesPart}
 use Rattle.coder.specs.declared.Header.{Header}
 use Rattle.coder.specs.declared.Header.the-variants.{Counts}
 use Rattle.values.specs.declared.CountResult.{CountResult}
 use Rattle.values.specs.declared.CountResult.the-variants.{Done}
-use Rattle.writer.specs.Write.{WritePromise}
+use Rattle.placing.specs.Placed.{withFront}
+use Rattle.writer.specs.Write.{WroteFile, WritePromise}
 use Rattle.layout.specs.Layout.{resultBytes, fieldAt}
 use Rattle.lowhenita.specs.Host.{WriteHosted}
 
@@ -42,10 +43,6 @@ WrittenReadFromC =
 
 -- ---- what was read, written
 
--- The lent buffer, which held `before`, has the file f at its front.
-abbrev pub InFront : List ℕ → List ℕ → List ℕ → Type 0
-InFront f before after = after ≡ f ++ drop (length f) before
-
 -- The reader gave h and `part` for the file f: h are counts, and with room in the buffer each outcome of the writer on these counts and
 -- entries is the file again.
 pub record WritesBack (f : List ℕ) (h : Header) (part : List ℕ) : Type 0 where
@@ -55,7 +52,7 @@ pub record WritesBack (f : List ℕ) (h : Header) (part : List ℕ) : Type 0 whe
   pub counts : h ≡ Counts states inputs outputs
   pub back :
       (before : List ℕ) (r : CountResult) (after : List ℕ) → length f ≤ length before →
-      WritePromise states inputs outputs part before r after → (r ≡ Done (length f)) × InFront f before after
+      WritePromise states inputs outputs part before r after → WroteFile f before r after
 
 -- For each accepted file, which is a list of bytes.
 abbrev pub ReadWritten : Type 0
@@ -68,7 +65,7 @@ ReadWrittenFromC =
     (f : List ℕ) → Letters 256 f → fileRefusal f ≡ 0 → (before result : List ℕ) (r : ℕ) (after result′ : List ℕ) →
     length f ≤ length before → resultBytes ≤ length result →
     WriteHosted (statesOf f) (inputsOf f) (outputsOf f) (entriesOf f) before result r after result′ →
-    (r ≡ 0) × (fieldAt result′ 0 ≡ length f) × InFront f before after
+    (r ≡ 0) × (fieldAt result′ 0 ≡ length f) × (after ≡ withFront f before)
 
 -- ---- one file
 
@@ -85,7 +82,7 @@ pub record OneFile (n i o : ℕ) (entries : List ℕ) : Type 0 where
   pub only : (f : List ℕ) → IsFileOf n i o entries f → f ≡ file
   pub written :
       (before : List ℕ) (r : CountResult) (after : List ℕ) → length file ≤ length before →
-      WritePromise n i o entries before r after → (r ≡ Done (length file)) × InFront file before after
+      WritePromise n i o entries before r after → WroteFile file before r after
 
 -- For each coder within the limits: none of the numbers 4 to 6 applies to its counts and entries.
 abbrev pub EachOneFile : Type 0

@@ -27,7 +27,8 @@ use Rattle.decoder.specs.Window.{WindowPromise}
 use Rattle.decoder.specs.Table.{TablePromise}
 use Rattle.decoder.specs.declared.WindowResult.{WindowResult}
 use Rattle.decoder.specs.declared.WindowResult.the-variants.{Answered}
-use Rattle.writer.specs.Write.{WritePromise}
+use Rattle.placing.specs.Placed.{withFront}
+use Rattle.writer.specs.Write.{WroteFile, WritePromise}
 use Rattle.search.specs.Search.{wanted, SearchPromise}
 use Rattle.search.specs.declared.Verdict.the-variants.{Least, NoDecoder}
 use Rattle.search.specs.declared.SearchResult.{SearchResult}
@@ -64,20 +65,20 @@ abbrev pub Holds : List ℕ → Claim → Type 0
 Holds f (counts n i o) = (r : Header) → r ≡ headerOf f → r ≡ Counts n i o
 Holds f (written n i o entries) =
     (before : List ℕ) (r : CountResult) (after : List ℕ) → length f ≤ length before → WritePromise n i o entries before r after →
-    (r ≡ Done (length f)) × (after ≡ f ++ drop (length f) before)
+    WroteFile f before r after
 Holds f (window o b a) =
     (before : List ℕ) (r : SearchResult) (after : List ℕ) → wanted ≤ length before → SearchPromise o f before r after →
     (r ≡ Found (Least (values.window b a))) × (after ≡ before)
 Holds f (no-decoder s t bytes) =
     ((o : Order) (before : List ℕ) (r : SearchResult) (after : List ℕ) → wanted ≤ length before → SearchPromise o f before r after →
-    (r ≡ Found (NoDecoder (loopedPair s t 1 0 0 1))) × (after ≡ bytes ++ drop (length bytes) before)) ×
+    (r ≡ Found (NoDecoder (loopedPair s t 1 0 0 1))) × (after ≡ withFront bytes before)) ×
     ((r : CheckResult) → CheckPromise f (pair s t bytes) r → r ≡ Checked true)
 Holds f different-outputs =
     (s i j : ℕ) → s < statesOf f → i < inputsOf f → j < inputsOf f → i ≢ j → machineOf f .out s i ≢ machineOf f .out s j
 Holds f (answer b a received v) = (r : WindowResult) → WindowPromise f (values.window b a) received r → r ≡ Answered v
 Holds f (table b a bytes) =
     (before : List ℕ) (r : CountResult) (after : List ℕ) → length bytes ≤ length before →
-    TablePromise f (values.window b a) before r after → (r ≡ Done (length bytes)) × (after ≡ bytes ++ drop (length bytes) before)
+    TablePromise f (values.window b a) before r after → (r ≡ Done (length bytes)) × (after ≡ withFront bytes before)
 Holds f (run s xs os e) =
     (before : List ℕ) (r : RunResult) (after : List ℕ) → length xs ≤ length before → RunPromise f s xs before r after →
     (r ≡ run-result.the-variants.Done (length xs) e) × (after ≡ os ++ drop (length xs) before)

@@ -1,11 +1,10 @@
 -- The file put together in the lent buffer, and what a call that is not refused may rely on.
-use mathlib.Core.Path.{_≡_, refl, sym, ap, subst, _∙_}
+use mathlib.Core.Path.{_≡_, refl, sym, ap, subst}
 use mathlib.Core.Bool.{Bool, true}
 use mathlib.Core.List.{List, _++_}
 use Prim.Native.Nat.{ℕ, _+_, _≤_}
 use native.Mathlib.Omega.{arith}
-use lib.ListN.{length, drop}
-use lib.Seq.{sets-eq}
+use lib.ListN.{length}
 use lib.Dec.{lit<, leb}
 use borrow.Author.Tests.{leb-true, le-leb}
 use Rattle.coder.specs.BigEndian.{bigEndian}
@@ -15,20 +14,12 @@ use Rattle.coder.proofs.Accepted.{entries-accepted}
 use Rattle.values.specs.declared.CountResult.{CountResult}
 use Rattle.values.specs.declared.CountResult.the-variants.{Refused, Done}
 use Rattle.placing.specs.Placed.{Placed}
-use Rattle.placing.proofs.Placing.{written-then, written-length}
-use Rattle.writer.specs.Write.{writeRefusal, writeRefusalIn, FilePromise, WritePromise, firstSix, FirstSixAsked, WriteAsked, FileWritten}
+use Rattle.placing.proofs.Placing.{written-then, written-length, placed-front}
+use Rattle.writer.specs.Write.{writeRefusal, writeRefusalIn, FilePromise, WroteFile, WritePromise, firstSix, FirstSixAsked, WriteAsked, FileWritten}
 
 pub length-file : (n i o : ℕ) (entries : List ℕ) → length (fileOf n i o entries) ≡ 6 + length entries
 unfolding bigEndian
 length-file n i o entries = omega arith
-
--- bytes that were put from the buffer's first place on
-pub placed-file :
-    {file before after : List ℕ} {count : ℕ} → Placed before 0 file after count → length file ≤ length before →
-    FileWritten file before count after
-placed-file {file} {before} {after} {count} p l =
-    let e : 0 + length file ≡ length file = omega arith in
-    record { counted = p .end ∙ e; bytes = p .buffer ∙ sets-eq file before 0 (omega arith) ∙ ap (λ k. file ++ drop k before) e }
 
 -- the file is its first six bytes and the entries
 file-parts : (n i o : ℕ) (entries : List ℕ) → fileOf n i o entries ≡ firstSix n i o (length entries) ++ entries
@@ -61,7 +52,9 @@ module _ {n i o : ℕ} {entries before : List ℕ} (q : WriteAsked n i o entries
           omega (arith, q .room, length-file n i o entries, a .end, written-length a)
 
       pub file-written : {after : List ℕ} {count : ℕ} → Placed middle at entries after count → FileWritten (fileOf n i o entries) before count after
-      file-written {after} {count} b = placed-file (rw (e, ← file-parts n i o entries) at (written-then a b)) (q .room)
+      file-written {after} {count} b =
+          let p = placed-front (rw (e, ← file-parts n i o entries) at (written-then a b)) (q .room) in
+          record { counted = p .0; bytes = p .1 }
 
 -- a call that writes a file: from what it was told and what its checked part gave to its promise
 module _ {k : ℕ} {file before : List ℕ} where
@@ -91,15 +84,9 @@ write-accepted n i o entries before others e =
 -- Counts and entries within the limits whose file is f, and a buffer with room for it: each outcome is that file.
 pub write-given :
     (n i o : ℕ) (entries before f : List ℕ) (r : CountResult) (after : List ℕ) → entriesRefusal n i o entries ≡ 0 →
-    fileOf n i o entries ≡ f → length f ≤ length before → WritePromise n i o entries before r after →
-    (r ≡ Done (length f)) × (after ≡ f ++ drop (length f) before)
+    fileOf n i o entries ≡ f → length f ≤ length before → WritePromise n i o entries before r after → WroteFile f before r after
 unfolding writeRefusal
 write-given n i o entries before f r after e same l p =
-    subst (λ (g : List ℕ). (r ≡ Done (length g)) × (after ≡ g ++ drop (length g) before)) same
-    (rw none at (p .result), rw none at (p .bytes))
-  where
-    room : length (fileOf n i o entries) ≤ length before
-    room = subst (λ (g : List ℕ). length g ≤ length before) (sym same) l
-
-    none : writeRefusalIn n i o entries (length before) true ≡ 0
-    none = rw (e, le-leb (length (fileOf n i o entries)) (length before) room)
+    let room = subst (λ (g : List ℕ). length g ≤ length before) (sym same) l in
+    let none : writeRefusalIn n i o entries (length before) true ≡ 0 = rw (e, le-leb (length (fileOf n i o entries)) (length before) room) in
+    subst (λ (g : List ℕ). WroteFile g before r after) same (rw none at p)

@@ -3,11 +3,12 @@ use Prim.Native.Nat.{ℕ, _+_, _<_, _≤_}
 use mathlib.Core.Path.{_≡_}
 use mathlib.Core.Bool.{Bool, true, not, _&&_}
 use mathlib.Core.List.{List, [], _∷_, _++_}
-use lib.ListN.{length, drop}
+use lib.ListN.{length}
 use lib.Dec.{leb}
 use Rattle.coder.specs.BigEndian.{bigEndian}
 use Rattle.coder.specs.Refusal.{refuse, first, answer}
 use Rattle.coder.specs.File.{fileOf, entriesRefusal}
+use Rattle.placing.specs.Placed.{withFront}
 use Rattle.values.specs.declared.CountResult.{CountResult}
 use Rattle.values.specs.declared.CountResult.the-variants.{Refused, Done}
 
@@ -25,7 +26,11 @@ writeRefusalIn n i o entries room others = writeRefusal n i o entries (leb (leng
 -- number of bytes written, and the file with the buffer's old bytes after it.
 pub record FilePromise (k : ℕ) (file before : List ℕ) (r : CountResult) (after : List ℕ) : Type 0 where
   pub result : r ≡ answer k (λ j. Refused j) (Done (length file))
-  pub bytes : after ≡ answer k (λ j. before) (file ++ drop (length file) before)
+  pub bytes : after ≡ answer k (λ j. before) (withFront file before)
+
+-- Such a call that is not refused.
+abbrev pub WroteFile : List ℕ → List ℕ → CountResult → List ℕ → Type 0
+WroteFile file before r after = FilePromise 0 file before r after
 
 -- The writer's promise: the file of the counts and the entry bytes.
 abbrev pub WritePromise : ℕ → ℕ → ℕ → List ℕ → List ℕ → CountResult → List ℕ → Type 0
@@ -40,7 +45,7 @@ pub record WriteAsked (n i o : ℕ) (entries before : List ℕ) : Type 0 where
 -- what it gives: the number of bytes, and the bytes
 pub record FileWritten (file before : List ℕ) (count : ℕ) (after : List ℕ) : Type 0 where
   pub counted : count ≡ length file
-  pub bytes : after ≡ file ++ drop (length file) before
+  pub bytes : after ≡ withFront file before
 
 -- The first six bytes of the file of three counts and so many entry bytes.
 abbrev pub firstSix : ℕ → ℕ → ℕ → ℕ → List ℕ

@@ -4,7 +4,7 @@ use borrow.Author.Needs.{needs}
 use denote.Ref.{now}
 use Rattle.coder.proofs.Refusals.{via}
 use Rattle.writer.specs.Write.{WriteAsked}
-use Rattle.lowhenita.proofs.Handing.{hosted-refused, hosted-done, file-done, Accepted, accepted-write}
+use Rattle.lowhenita.proofs.Handing.{hosted-refused, hosted-done, file-fields, Accepted, accepted-write}
 use Rattle.lowhenita.proofs.lowhenita_write.Statement.{statement}
 use Rattle.lowhenita.proofs.lowhenita_write.Tie as tie
 
@@ -37,7 +37,7 @@ returns-2 c =
     let v = c .before .before .before .before .before .before in
     let e = v .before .before in
     hosted-done (via (e .before .refusal .ensures) (e .if1 .left))
-    (file-done (v .checked .ensures) (c .before .before .put-one .ensures))
+    (file-fields (v .checked .ensures) (c .before .before .put-one .ensures))
 
 pub lowhenita-write-spec : {M : Type 1} → statement M
 lowhenita-write-spec =
