@@ -11,7 +11,7 @@ use Rattle.mealy.specs.LoopedPair.{LoopedPair}
 use Rattle.mealy.specs.Machine.{end}
 use Rattle.mealy.specs.Answer as mealy
 use Rattle.coder.specs.Refusal.{upon}
-use Rattle.coder.specs.File.{fileOf, machineOf}
+use Rattle.coder.specs.File.{machineOf}
 use Rattle.coder.proofs.Refusals.{both-right, upon-done}
 use Rattle.running.specs.Run.{runRefusalIn, RunPromise}
 use Rattle.running.specs.declared.RunResult as run
@@ -31,9 +31,9 @@ use Rattle.search.specs.Search.{searchRefusal, wanted, SearchPromise}
 use Rattle.search.specs.declared.SearchResult as search
 use Rattle.checker.specs.Check.{checkRefusal, CheckPromise}
 use Rattle.checker.specs.declared.CheckResult as check
-use Rattle.writer.specs.Write.{writeRefusalIn, WritePromise}
+use Rattle.writer.specs.Write.{writeRefusalIn, FilePromise, WritePromise}
 use Rattle.layout.specs.Layout.{resultBytes, fieldsOf}
-use Rattle.lowhenita.specs.Host.{roomy, Hosted, BothStay, RunHosted, SearchHosted, BytesGiven, DecodeHosted, TableHosted, CheckHosted, WindowHosted, WriteHosted}
+use Rattle.lowhenita.specs.Host.{roomy, Hosted, BothStay, RunHosted, SearchHosted, BytesGiven, DecodeHosted, TableHosted, CheckHosted, WindowHosted, FileGiven, WriteHosted}
 use Rattle.lowhenita.proofs.Handing.{accepted-search}
 use Rattle.theorems.specs.Handed.{Laid, Handed, laidRun, laidSearch, laidCount, laidCheck, laidWindow, FoundFromC}
 
@@ -56,6 +56,27 @@ bytes-handed {n} k =
     hand k
     (λ e g. record {
       own = count.the-variants.Done n;
+      promised = record { result = rw e; bytes = rw e (g .bytes) };
+      number = refl;
+      fields = g .fields;
+    })
+    (λ j e g. record {
+      own = count.the-variants.Refused (suc j);
+      promised = record { result = rw e; bytes = rw e (g .bytes) };
+      number = refl;
+      fields = g .fields;
+    })
+
+-- calls that write a file
+file-handed :
+    {file before after result result′ : List ℕ} {r : ℕ} (k : ℕ) →
+    Hosted k r (BothStay before result after result′) (FileGiven file before result after result′) →
+    Handed (λ own. FilePromise k file before own after) laidCount result r result′
+unfolding fieldsOf
+file-handed {file} k =
+    hand k
+    (λ e g. record {
+      own = count.the-variants.Done (length file);
       promised = record { result = rw e; bytes = rw e (g .bytes) };
       number = refl;
       fields = g .fields;
@@ -191,19 +212,5 @@ module _ (result : List ℕ) (long : resultBytes ≤ length result) where
       (n i o : ℕ) (entries before : List ℕ) (r : ℕ) (after result′ : List ℕ) →
       WriteHosted n i o entries before result r after result′ →
       Handed (λ own. WritePromise n i o entries before own after) laidCount result r result′
-  unfolding fieldsOf
   write-handed n i o entries before r after result′ h =
-      hand (writeRefusalIn n i o entries (length before) true)
-      (λ e g. record {
-        own = count.the-variants.Done (length (fileOf n i o entries));
-        promised = record { result = rw e; bytes = rw e (g .bytes) };
-        number = refl;
-        fields = g .fields;
-      })
-      (λ j e g. record {
-        own = count.the-variants.Refused (suc j);
-        promised = record { result = rw e; bytes = rw e (g .bytes) };
-        number = refl;
-        fields = g .fields;
-      })
-      (rw fits at h)
+      file-handed (writeRefusalIn n i o entries (length before) true) (rw fits at h)
