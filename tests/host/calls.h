@@ -50,4 +50,7 @@ void all_strings(const coder_file *f, size_t window, size_t most);
 void all_tables(const coder_file *f, size_t most);
 void all_pairs(const coder_file *f, size_t most);
 
+/* A table of any size, each byte with an allowance of its own, in a buffer with a byte to spare. */
+void whole_table(const coder_file *f, size_t before, size_t after);
+
 #endif

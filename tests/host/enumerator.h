@@ -58,6 +58,9 @@ size_t refusal_of_file(const uint8_t *file, size_t len);
 /* The bytes of a table, or one more than the most where there would be more. */
 size_t table_bytes(size_t outputs, size_t letters);
 
+/* The letters of the longest window that may have a table. */
+size_t longest_window(size_t outputs);
+
 /* The places of the received letters that have a full window. */
 size_t full_windows(const arguments *a);
 

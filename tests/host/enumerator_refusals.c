@@ -96,6 +96,29 @@ size_t table_bytes(size_t outputs, size_t letters)
     return bytes;
 }
 
+/* Document 02, 4/13: a line a case, from this O to that one. Any window that a call may name is
+   allowed where O is 1. */
+size_t longest_window(size_t outputs)
+{
+    static const struct { size_t from, to, letters; } cases[] = {
+        {1, 1, MOST_WINDOW},
+        {2, 2, 16},
+        {3, 3, 10},
+        {4, 4, 8},
+        {5, 6, 6},
+        {7, 9, 5},
+        {10, 16, 4},
+        {17, 40, 3},
+        {41, 64, 2},
+    };
+    size_t k;
+
+    for (k = 0; k < sizeof cases / sizeof cases[0]; k++)
+        if (outputs >= cases[k].from && outputs <= cases[k].to)
+            return cases[k].letters;
+    return 0;
+}
+
 size_t full_windows(const arguments *a)
 {
     if (a->bytes_len < a->before + 1 + a->after)
@@ -160,14 +183,14 @@ static size_t refusal_of_window(const arguments *a, const coder *c)
 
 static size_t refusal_of_table(const arguments *a, const coder *c)
 {
-    size_t bytes;
+    size_t letters;
 
     if (sides_too_large(a))
         return 8;
-    bytes = table_bytes(c->outputs, a->before + 1 + a->after);
-    if (bytes > MOST_TABLE)
+    letters = a->before + 1 + a->after;
+    if (letters > longest_window(c->outputs))
         return 10;
-    if (a->lent_len < bytes || a->result_len < RESULT_BYTES)
+    if (a->lent_len < table_bytes(c->outputs, letters) || a->result_len < RESULT_BYTES)
         return 11;
     return 0;
 }

@@ -1,4 +1,4 @@
-/* Arguments at the edges of what is refused: counts, sides, tables, lengths, buffers and files. */
+/* Arguments at the edges of what is refused: counts, sides, lengths, buffers and files. */
 #include "calls.h"
 #include "groups.h"
 
@@ -61,40 +61,6 @@ static void edge_sides(const coder_file *f)
     a.call = CALL_WINDOW;
     a.bytes_len = MOST_WINDOW;
     known_refusal(&a, 0);
-}
-
-static void edge_table(const coder_file *f)
-{
-    arguments a = plain(CALL_TABLE, f);
-
-    a.lent_len = MOST_TABLE + 2;
-    a.before = 8;
-    a.after = 8;
-    known_refusal(&a, 10);
-    a.after = 7;
-    a.lent_len = MOST_TABLE - 1;
-    known_refusal(&a, 11);
-}
-
-/* The tables of 65,536 bytes, in full. */
-static void edge_full_table(const coder_file *f, size_t before)
-{
-    static uint8_t wanted[MOST_TABLE];
-    arguments a = plain(CALL_TABLE, f);
-    coder c = coder_of_file(f->bytes);
-    uint8_t received[16];
-    size_t k, d;
-
-    a.before = before;
-    a.after = 15 - before;
-    a.lent_len = MOST_TABLE + 1;
-    for (k = 0; k < MOST_TABLE; k++) {
-        for (d = 0; d < 16; d++)
-            received[d] = (uint8_t)(k >> (15 - d) & 1);
-        allow_steps(ANSWER_STEPS);
-        wanted[k] = window_byte(&c, a.before, a.after, received);
-    }
-    compare_known(&a, wanted, MOST_TABLE);
 }
 
 /* Lengths whose sum, or twice whose sum, passes what a number holds. */
@@ -177,14 +143,6 @@ void group_edges(void)
         edge_lengths(&e.file);
         edge_buffers(&e.file);
         edge_files(&e.file);
-        if (e.file.bytes[5] == 2)
-            edge_table(&e.file);
     }
-    make_example(0, &e);
-    edge_full_table(&e.file, 1);
-    make_example(3, &e);
-    edge_full_table(&e.file, 8);
-    make_example(7, &e);
-    edge_full_table(&e.file, 15);
     end_group();
 }

@@ -16,6 +16,7 @@ void group_arguments(enum call call, const char *name, size_t count);
 void group_damaged(const char *name, size_t faults, size_t count);
 void group_ties(void);
 void group_writer(void);
+void group_table_limit(void);
 void group_orders(void);
 
 #endif

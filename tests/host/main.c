@@ -49,6 +49,7 @@ int main(int count, char **words)
     group_damaged("damaged arguments, three faults", 3, 50000);
     group_ties();
     group_writer();
+    group_table_limit();
     group_orders();
     return end_groups();
 }

@@ -36,6 +36,11 @@ pub both-false : (a b : Bool) → b ≡ false → (a && b) ≡ false
 both-false true b e = e
 both-false false b e = refl
 
+-- no number of a chain is above m
+pub refuse-at-most : {m : ℕ} (t : Bool) (k x : ℕ) → k ≤ m → x ≤ m → refuse t k x ≤ m
+refuse-at-most true k x l h = l
+refuse-at-most false k x l h = h
+
 -- a chain that says 0 has passed each of its tests
 pub refuse-none : (t : Bool) (k x : ℕ) → 0 < k → refuse t k x ≡ 0 → (t ≡ false) × (x ≡ 0)
 refuse-none true k x p e = absurd (omega arith)

@@ -3,6 +3,7 @@ use mathlib.Core.Path.{_≡_}
 use mathlib.Core.Bool.{Bool, true, not, _&&_}
 use mathlib.Core.List.{List}
 use Prim.Native.Nat.{ℕ, _≤_}
+use native.Mathlib.Omega.{arith}
 use lib.ListN.{length}
 use lib.Dec.{lit<, leb, eqb}
 use borrow.Author.Tests.{leb-true, eqb-true}
@@ -11,7 +12,10 @@ use Rattle.coder.specs.Limits.{maxSide}
 use Rattle.coder.specs.Refusal.{refuse, lettersBelow}
 use Rattle.coder.specs.File.{fileRefusal, outputsOf}
 use Rattle.coder.proofs.Refusals.{both-true, refuse-not, first-none, letters-below}
-use Rattle.filling.specs.Table.{maxTable}
+use Rattle.coder.proofs.Accepted.{accepted}
+use Rattle.table_size.specs.Size.{maxTable}
+use Rattle.table_size.specs.Cases.{tableAllowed}
+use Rattle.table_size.proofs.Cases.{cases-exact}
 use Rattle.values.specs.Window.{size}
 use Rattle.values.specs.declared.Window.{Window}
 use Rattle.decoder.specs.Refusal.{sidesRefusal, SidesSmall, windowRefusal, stringRefusal, tableSize, tableRefusal}
@@ -105,6 +109,19 @@ table-accepted f w fit e =
     let q = refuse-not n _ _ (lit< tt) (p .1) in
     let s = refuse-not fit _ _ (lit< tt) (q .1) in
     record { sides = sides-accepted f w (p .0); small = leb-true _ _ (q .0); fits = s .0 }
+
+-- the cases on O, where the file and the sides are accepted
+pub table-allowed :
+    (f : List ℕ) (w : Window) → sidesRefusal f w ≡ 0 → tableAllowed (outputsOf f) (size w) ≡ leb (tableSize (outputsOf f) w) maxTable
+table-allowed f w e =
+    let a = accepted f (sides-accepted f w e .file) in cases-exact (outputsOf f) (size w) (omega (arith, a)) (omega (arith, a))
+
+-- 10 and 11, by a test that says whether the table is small enough
+pub table-refused :
+    (f : List ℕ) (w : Window) (small fits : Bool) → sidesRefusal f w ≡ 0 → small ≡ leb (tableSize (outputsOf f) w) maxTable →
+    tableRefusal f w fits ≡ refuse (not small) 10 (refuse (not fits) 11 0)
+unfolding tableRefusal
+table-refused f w small fits e t = rw (e, ← t)
 
 pub table-asked :
     (f : List ℕ) (w : Window) (before : List ℕ) (others : Bool) →

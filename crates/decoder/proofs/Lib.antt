@@ -1,6 +1,5 @@
 -- Laws of the decoder's calls.
 pub mod Accepting
-pub mod Sizes
 pub mod Writing
 pub mod Counting
 pub mod Decoding

@@ -7,7 +7,7 @@ use lib.Dec.{leb, eqb}
 use Rattle.coder.specs.Refusal.{refuse, first, lettersBelow}
 use Rattle.coder.specs.Limits.{maxSide}
 use Rattle.coder.specs.File.{fileRefusal, outputsOf}
-use Rattle.filling.specs.Table.{maxTable}
+use Rattle.table_size.specs.Size.{maxTable}
 use Rattle.values.specs.Window.{size}
 use Rattle.values.specs.declared.Window.{Window}
 

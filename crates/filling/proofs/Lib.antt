@@ -2,6 +2,5 @@
 pub mod Steps
 pub mod Sets
 pub mod Runs
-pub mod Sizes
 pub mod Filling
 pub mod Window

@@ -1,10 +1,9 @@
 -- The decoder table: a byte for each window, by its index.
-use mathlib.Core.Bool.{Bool, cond}
+use mathlib.Core.Bool.{Bool}
 use Prim.Native.Nat.{ℕ, _^_, _≤_, _<_}
 use mathlib.Core.Path.{_≡_}
 use mathlib.Core.List.{List}
 use lib.ListN.{length, getD}
-use lib.Dec.{leb}
 use Rattle.mealy.specs.Setting.{Setting}
 use Rattle.mealy.specs.Index.{windowAt}
 use Rattle.mealy.specs.Word.{Holds}
@@ -15,14 +14,6 @@ use Rattle.setting.specs.Words.{settingOfCoder}
 use Rattle.fitting.specs.Answer.{RightByte, ByteOf}
 use Rattle.filling.specs.Runs.{From, EachWord, SetsIn, LetterAfter}
 use Rattle.filling.specs.Sets.{RowsOf, RowsAsked}
-
--- The most bytes that a table may have (refusal 10).
-abbrev pub maxTable : ℕ
-maxTable = 65536
-
--- o to the power n, or 0 where that is more than a table may have
-abbrev pub sizeOf : ℕ → ℕ → ℕ
-sizeOf o n = cond (leb (o ^ n) maxTable) (o ^ n) 0
 
 -- v is the right byte for the window of n letters with index k
 abbrev pub EntryAt : Setting → ℕ → ℕ → ℕ → ℕ → ℕ → Type 0

@@ -1,17 +1,17 @@
 -- From what the reader and the search say to the report's lines.
 use mathlib.Core.Path.{_≡_, refl, sym, ap, _∙_}
-use mathlib.Core.Bool.{Bool, true, false, not}
 use mathlib.Core.List.{List, _++_}
-use Prim.Native.Nat.{ℕ, zero, suc, _+_, _*_, _-_, _<_, _≤_}
+use Prim.Native.Nat.{ℕ, zero, suc, _+_, _<_, _≤_}
 use native.Mathlib.Omega.{arith}
 use lib.ListN.{length}
-use lib.Dec.{ltb, leb, eqb}
+use lib.Dec.{leb}
 use borrow.Author.Tests.{le-leb}
 use Rattle.mealy.specs.Product.{pairs}
-use Rattle.coder.specs.Refusal.{refuse, answer, allBelow}
-use Rattle.coder.specs.File.{versionOf, countField, inRange, entryInRange, entriesRefusal, fileRefusal, headerOf, statesOf, inputsOf, outputsOf, entriesOf, machineOf, settingOf}
+use Rattle.coder.specs.Refusal.{answer}
+use Rattle.coder.specs.File.{fileRefusal, headerOf, statesOf, inputsOf, outputsOf, machineOf, settingOf}
 use Rattle.coder.specs.declared.Header.{Header}
 use Rattle.coder.specs.declared.Header.the-variants.{Refused, Counts}
+use Rattle.coder.proofs.Numbers.{file-at-most}
 use Rattle.coder.proofs.Refusals.{upon-refused, upon-done}
 use Rattle.coder.proofs.Accepted.{accepted}
 use Rattle.product.proofs.Depths.{pairs-high}
@@ -36,26 +36,6 @@ use Rattle.report_text.proofs.Lengths.{refused-length, window-length}
 
 -- ---- the reader
 
--- no refusal of a file is above 6
-refuse-small : (t : Bool) (k x : ℕ) → k ≤ 6 → x ≤ 6 → refuse t k x ≤ 6
-refuse-small true k x l m = l
-refuse-small false k x l m = m
-
-entries-small : (n i o : ℕ) (entries : List ℕ) → entriesRefusal n i o entries ≤ 6
-unfolding entriesRefusal
-entries-small n i o entries =
-    refuse-small (not (inRange n i o)) 4 _ (omega arith)
-    (refuse-small (not (eqb (length entries) (2 * (n * i)))) 5 _ (omega arith)
-    (refuse-small (not (allBelow (n * i) (entryInRange n o entries))) 6 0 (omega arith) (omega arith)))
-
-pub refusal-small : (f : List ℕ) → fileRefusal f ≤ 6
-unfolding fileRefusal
-refusal-small f =
-    refuse-small (ltb (length f) 6) 1 _ (omega arith)
-    (refuse-small (not (eqb (versionOf f) 1)) 2 _ (omega arith)
-    (refuse-small (not (eqb (countField f) (length f - 3))) 3 _ (omega arith)
-    (entries-small (statesOf f) (inputsOf f) (outputsOf f) (entriesOf f))))
-
 pub record HeaderRefused (f : List ℕ) (k : ℕ) : Type 0 where
   pub by : k ≡ fileRefusal f
   pub some : k ≡ 0 → ⊥
@@ -70,7 +50,7 @@ header-refused f {h} {k} e d = go (fileRefusal f) refl (sym e ∙ d)
     go (suc n) q p = let z : suc n ≡ k = cc in record { by = sym z ∙ sym q; some = λ y. omega arith }
 
 pub refused-short : (f : List ℕ) {h : Header} {k : ℕ} → h ≡ headerOf f → h ≡ Refused k → k < 1000
-refused-short f e d = let r = header-refused f e d in omega (arith, r .by, refusal-small f)
+refused-short f e d = let r = header-refused f e d in omega (arith, r .by, file-at-most f)
 
 pub record HeaderCounts (f : List ℕ) (n i o : ℕ) : Type 0 where
   pub none : fileRefusal f ≡ 0

@@ -5,6 +5,7 @@ pub mod Handing
 pub mod RoundTrip
 pub mod HostRoundTrip
 pub mod Files
+pub mod TableLimit
 pub mod Tests
 pub mod Starred
 pub mod SearchChecked

@@ -16,7 +16,7 @@ use Rattle.coder.proofs.Refusals.{both-right}
 use Rattle.running.specs.Run.{runRefusal}
 use Rattle.values.specs.Window.{size}
 use Rattle.values.specs.declared.Window.{Window}
-use Rattle.filling.specs.Table.{maxTable}
+use Rattle.table_size.specs.Size.{maxTable}
 use Rattle.decoder.specs.Refusal.{sidesRefusal, windowRefusal, stringRefusal, tableSize, tableRefusal}
 use Rattle.search.specs.Search.{searchRefusal}
 use Rattle.writer.specs.Write.{writeRefusal}

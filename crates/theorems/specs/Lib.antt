@@ -3,5 +3,6 @@ pub mod Published
 pub mod Handed
 pub mod RoundTrip
 pub mod Files
+pub mod TableLimit
 pub mod Starred
 pub mod Demands

@@ -11,7 +11,7 @@ use Rattle.coder.specs.Limits.{maxSide}
 use Rattle.coder.specs.File.{versionOf, countField, statesOf, inputsOf, outputsOf, entriesOf, fileOf, inRange, entryInRange}
 use Rattle.values.specs.Window.{size}
 use Rattle.values.specs.declared.Window.{Window}
-use Rattle.filling.specs.Table.{maxTable}
+use Rattle.table_size.specs.Size.{maxTable}
 use Rattle.decoder.specs.Refusal.{tableSize}
 use Rattle.decoder.specs.Places.{places}
 use Rattle.search.specs.Search.{wanted}

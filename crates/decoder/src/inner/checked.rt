@@ -10,10 +10,10 @@ use crate::inner::sizes;
 use chains::inner::rows_by_key;
 use coder::inner::tables::Coder;
 use filling::inner::table::fill;
-use filling::inner::table::size;
 use fitting::inner::tables::of_coder;
 use fitting::inner::window::decode;
 use setting::inner::start_states;
+use table_size::inner::size;
 use values::Window;
 
 // Decodes one window of received letters.

@@ -7,6 +7,8 @@ use crate::inner::sizes;
 use coder::inner::bytes::byte;
 use coder::inner::bytes::letters_below;
 use coder::inner::tables::Coder;
+use table_size::inner::allowed;
+use table_size::inner::size;
 use values::Window;
 
 // 1 to 6 and 8, or 0.
@@ -79,11 +81,12 @@ pub fn table(file: &[u8], w: Window, room: usize, others: bool) -> usize
     if k != 0 {
         return k;
     }
-    let m = filling::inner::table::size(byte(file, 5), sizes::letters(w));
-    if m == 0 {
+    let outputs = byte(file, 5);
+    let n = sizes::letters(w);
+    if !allowed(outputs, n) {
         return 10;
     }
-    if room < m {
+    if room < size(outputs, n) {
         return 11;
     }
     if others { 0 } else { 11 }

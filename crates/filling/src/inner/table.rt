@@ -1,10 +1,7 @@
 // The decoder table, filled letter by letter: the windows that begin alike share the pass over what they have in common.
-ghost use mathlib.Core.Path.{_≡_};
-ghost use Prim.Native.Nat.{_≤_};
-ghost use Rattle.coder.specs.Limits.{maxOutputs};
 ghost use Rattle.coder.specs.declared.inner.tables.Coder.{Coder};
 ghost use Rattle.filling.specs.Sets.{RowsOf};
-ghost use Rattle.filling.specs.Table.{sizeOf, LastAsked, LastFilled, PartAsked, PartGiven, FillAsked, FillGiven};
+ghost use Rattle.filling.specs.Table.{LastAsked, LastFilled, PartAsked, PartGiven, FillAsked, FillGiven};
 use crate::inner::sets::EMPTY;
 use crate::inner::sets::advance;
 use crate::inner::sets::letters_after;
@@ -12,26 +9,6 @@ use crate::inner::sets::present_after;
 use crate::inner::sets::start_sets;
 use fitting::inner::answer::answer_byte;
 use fitting::inner::answer::answer_of;
-
-// The most bytes that a table may have.
-const TABLE: usize = 65536;
-
-// The number of windows of n letters to base o, or 0 where there are more than a table may have bytes.
-pub fn size(o: usize, n: usize) -> usize
-    requires { ⌜ (1 ≤ o) × (o ≤ maxOutputs) ⌝ }
-    ensures { λ r. ⌜ r ≡ sizeOf o n ⌝ }
-{
-    let mut size: usize = 1;
-    let mut i = 0;
-    while i < n {
-        size *= o;
-        if TABLE < size {
-            return 0;
-        }
-        i += 1;
-    }
-    size
-}
 
 // Fills the part of the table whose windows have one letter more. `here` says whether that is the present one.
 fn fill_last<'a>(

@@ -8,7 +8,6 @@ use denote.Ref.{now}
 use Rattle.coder.specs.File.{outputsOf}
 use Rattle.decoder.specs.Refusal.{tableSize}
 use Rattle.decoder.proofs.Accepting.{table-accepted}
-use Rattle.filling.proofs.Sizes.{size-small}
 use Rattle.decoder.proofs.Decoding.{CoderOf, sound-of, outputs-of, keys-of, rows-of, table-right}
 use Rattle.decoder.proofs.inner.checked.table.Statement.{statement}
 use Rattle.decoder.proofs.inner.checked.table.Tie as tie
@@ -33,7 +32,12 @@ letters-requires : tie.Need-letters-requires
 letters-requires c κs = table-accepted _ _ _ (c .before .before .before .before .before .before .before .pre .accepted) .sides .small
 
 size-requires : tie.Need-size-requires
-size-requires c κs = let s = sound-of (coder-of (c .before .before .before .before .before)) in (s .outputs-low, s .outputs-high)
+size-requires c κs =
+    let k = c .before .before .before .before .before in
+    let h = coder-of k in (
+      sound-of h .outputs-low,
+      rw (outputs-of h, c .letters .ensures) (table-accepted _ _ _ (k .before .before .before .pre .accepted) .small),
+    )
 
 -- the place after the call of `from_checked`, from that after the call of `size`
 abbrev made : tie.After-size → tie.After-from-checked
@@ -42,9 +46,7 @@ made c = c .before .before .before .before .before .before
 count-is :
     (c : tie.After-size) →
     let a = made c .before .before .before .args in c .size .result ≡ tableSize (outputsOf (now (a .file))) (a .w)
-count-is c =
-    size-small (c .size .ensures) (outputs-of (coder-of (made c))) (c .before .letters .ensures)
-    (table-accepted _ _ _ (made c .before .before .before .pre .accepted) .small)
+count-is c = c .size .ensures ∙ ap₂ _^_ (outputs-of (coder-of (made c))) (c .before .letters .ensures)
 
 room : (c : tie.After-size) → c .size .result ≤ length (now (made c .before .before .before .args .table))
 room c = omega (arith, count-is c, made c .before .before .before .pre .room)

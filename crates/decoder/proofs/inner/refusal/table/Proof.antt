@@ -1,18 +1,22 @@
 -- `refusal::table` meets its contract: the refusals of the file and the sides, then 10 and 11 in order.
-use mathlib.Core.Path.{_≡_, _∙_}
-use mathlib.Core.Bool.{not, _&&_}
+use mathlib.Core.Path.{_≡_, sym, ap, ap₂, _∙_}
+use Prim.Native.Nat.{ℕ, _^_, _≤_}
+use mathlib.Core.Bool.{Bool, true, not, _&&_}
 use native.Mathlib.Omega.{arith}
-use lib.Dec.{leb, eqb}
+use lib.Dec.{leb}
 use denote.Ref.{now}
 use borrow.Author.Needs.{needs}
+use borrow.Author.Tests.{leb-true, le-leb, not-false}
 use Rattle.coder.specs.Refusal.{refuse}
+use Rattle.coder.specs.File.{outputsOf}
 use Rattle.coder.proofs.Refusals.{refused-first, tests, via}
 use Rattle.coder.proofs.Accepted.{accepted}
 use Rattle.values.specs.Window.{size}
-use Rattle.decoder.specs.Refusal.{sidesRefusal, tableRefusal}
+use Rattle.decoder.specs.Refusal.{sidesRefusal, tableSize, tableRefusal}
 use Rattle.decoder.specs.Table.{tableRefusalIn}
-use Rattle.decoder.proofs.Accepting.{sides-accepted}
-use Rattle.decoder.proofs.Sizes.{by-size}
+use Rattle.decoder.proofs.Accepting.{sides-accepted, table-allowed, table-refused}
+use Rattle.table_size.specs.Size.{maxTable}
+use Rattle.table_size.specs.Cases.{tableAllowed}
 use Rattle.decoder.proofs.inner.refusal.table.Statement.{statement}
 use Rattle.decoder.proofs.inner.refusal.table.Tie as tie
 
@@ -32,34 +36,70 @@ byte-requires c κs = omega (arith, accepted _ (sides-accepted _ _ (not-refused 
 letters-requires : tie.Need-letters-requires
 letters-requires c κs = sides-accepted _ _ (not-refused (c .before)) .small
 
+allowed-requires : tie.Need-allowed-requires
+allowed-requires c κs = search needs
+
+-- the refusals 1 to 8 do not apply, from the call of `allowed` on
+abbrev past-sides : tie.After-allowed → tie.Else1
+past-sides c = c .before .before .before
+
+-- the cases say whether the table is small enough
+within :
+    (c : tie.After-allowed) →
+    let a = past-sides c .before .before .before .args in
+    c .allowed .result ≡ leb (tableSize (outputsOf (now (a .file))) (a .w)) maxTable
+within c =
+    c .allowed .ensures ∙ ap₂ tableAllowed (c .before .before .byte .ensures .0) (c .before .letters .ensures)
+    ∙ table-allowed _ _ (not-refused (past-sides c))
+
+by-cases :
+    (c : tie.After-allowed) →
+    let a = past-sides c .before .before .before .args in
+    tableRefusalIn (now (a .file)) (a .w) (a .room) (a .others)
+    ≡ refuse (not (c .allowed .result)) 10
+    (refuse (not (leb (tableSize (outputsOf (now (a .file))) (a .w)) (a .room) && (a .others))) 11 0)
+by-cases c = table-refused _ _ (c .allowed .result) _ (not-refused (past-sides c)) (within c)
+
+returns-2 : tie.Need-returns-2
+returns-2 c = rw (by-cases (c .before), c .if2 .taken)
+
+is-within :
+    (c : tie.Else2) →
+    let a = past-sides (c .before) .before .before .before .args in
+    true ≡ leb (tableSize (outputsOf (now (a .file))) (a .w)) maxTable
+is-within c = sym (not-false _ (c .if2 .left)) ∙ within (c .before)
+
 size-requires : tie.Need-size-requires
-size-requires c κs = omega (arith, accepted _ (sides-accepted _ _ (not-refused (c .before .before)) .file))
+size-requires c κs =
+    let k = c .before in (
+      omega (arith, accepted _ (sides-accepted _ _ (not-refused (past-sides k)) .file)),
+      rw (k .before .before .byte .ensures .0, k .before .letters .ensures) (leb-true _ _ (sym (is-within c))),
+    )
 
 by-room :
     (c : tie.After-size) →
-    let a = c .before .before .before .before .before .before .args in
-    let m = c .size .result in
-    tableRefusalIn (now (a .file)) (a .w) (a .room) (a .others)
-    ≡ refuse (eqb m 0) 10 (refuse (not (leb m (a .room) && (a .others))) 11 0)
-unfolding tableRefusal
+    let a = past-sides (c .before .before) .before .before .before .args in
+    tableRefusalIn (now (a .file)) (a .w) (a .room) (a .others) ≡ refuse (not (leb (c .size .result) (a .room) && (a .others))) 11 0
 by-room c =
-    let a = c .before .before .before .before .before .before .args in
-    let z = not-refused (c .before .before .before) in
-    rw (z, ← (c .before .before .byte .ensures .0))
-    (by-size (c .before .before .byte .result) (size (a .w)) (c .size .result) (a .room) (a .others)
-    (omega (arith, accepted _ (sides-accepted _ _ z .file))) (c .size .ensures ∙ rw (c .before .letters .ensures)))
-
-returns-2 : tie.Need-returns-2
-returns-2 c = rw (by-room (c .before)) (search tests)
+    let k = c .before .before in
+    let a = past-sides k .before .before .before .args in
+    let m : c .size .result ≡ tableSize (outputsOf (now (a .file))) (a .w) =
+    c .size .ensures ∙ ap₂ _^_ (k .before .before .byte .ensures .0) (k .before .letters .ensures) in
+    table-refused _ _ true _ (not-refused (past-sides k)) (is-within (c .before))
+    ∙ ap (λ x. refuse (not (leb x (a .room) && (a .others))) 11 0) (sym m)
 
 returns-3 : tie.Need-returns-3
-returns-3 c = rw (by-room (c .before .before)) (search tests)
+returns-3 c = rw (by-room (c .before)) (search tests)
+
+-- with room for the table, the other lent buffers decide
+by-others : {m room : ℕ} {others t : Bool} → m ≤ room → others ≡ t → refuse (not (leb m room && others)) 11 0 ≡ refuse (not t) 11 0
+by-others {m} {room} l e = rw (le-leb m room l, e)
 
 returns-4 : tie.Need-returns-4
-returns-4 c = rw (by-room (c .before .before .before), c .if4 .taken) (search tests)
+returns-4 c = sym (by-room (c .before .before) ∙ by-others (c .before .if3 .left) (c .if4 .taken))
 
 returns-5 : tie.Need-returns-5
-returns-5 c = rw (by-room (c .before .before .before), c .if4 .left) (search tests)
+returns-5 c = sym (by-room (c .before .before) ∙ by-others (c .before .if3 .left) (c .if4 .left))
 
 pub table-spec : {M : Type 1} → statement M
 table-spec =
@@ -69,8 +109,9 @@ table-spec =
     returns
     byte-requires
     letters-requires
-    size-requires
+    allowed-requires
     returns-2
+    size-requires
     returns-3
     returns-4
     returns-5)

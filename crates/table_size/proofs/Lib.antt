@@ -1,0 +1,2 @@
+-- The laws of the size of a decoder table.
+pub mod Cases

@@ -1,0 +1,3 @@
+-- What the contracts of the size of a decoder table cite.
+pub mod Size
+pub mod Cases

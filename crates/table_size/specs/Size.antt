@@ -1,0 +1,5 @@
+-- The most bytes that a decoder table may have (document 01, "Decoding", last sentence; refusal 10).
+use Prim.Native.Nat.{ℕ}
+
+abbrev pub maxTable : ℕ
+maxTable = 65536

@@ -1,0 +1,82 @@
+-- The cases on O refuse exactly the tables that are too large, and a call for a table is refused with 10 exactly where they do.
+use mathlib.Core.Path.{_≡_, refl, sym, _∙_}
+use mathlib.Core.Bool.{Bool, true, false, not, _&&_}
+use mathlib.Core.Logic.{_↔_}
+use mathlib.Core.List.{List}
+use Prim.Native.Nat.{ℕ, zero, suc, _≤_}
+use native.Mathlib.Omega.{arith}
+use lib.ListN.{length}
+use lib.Dec.{leb}
+use borrow.Author.Tests.{leb-false, lt-leb}
+use Rattle.coder.specs.Refusal.{refuse, first, answer}
+use Rattle.coder.specs.Limits.{maxSide}
+use Rattle.coder.specs.File.{outputsOf, fileRefusal}
+use Rattle.coder.proofs.Refusals.{refuse-at-most}
+use Rattle.coder.proofs.Numbers.{file-at-most}
+use Rattle.values.specs.Window.{size}
+use Rattle.values.specs.declared.Window.{Window}
+use Rattle.values.specs.declared.CountResult.the-variants.{Refused, Done}
+use Rattle.table_size.specs.Size.{maxTable}
+use Rattle.table_size.specs.Cases.{tableAllowed}
+use Rattle.table_size.proofs.Cases.{cases-exact}
+use Rattle.decoder.specs.Refusal.{sidesRefusal, tableSize, tableRefusal}
+use Rattle.decoder.specs.Table.{tableRefusalIn}
+use Rattle.decoder.proofs.Accepting.{table-allowed, table-refused}
+use Rattle.theorems.specs.TableLimit.{CasesExact, RefusedByCases, TableLimit}
+
+exactly : CasesExact
+exactly o w l h s =
+    let e = cases-exact o (size w) l h in
+    ((λ q. leb-false (tableSize o w) maxTable (sym e ∙ q)), (λ q. e ∙ lt-leb (tableSize o w) maxTable q))
+
+-- ---- the calls
+
+-- no number of the file and the sides is 10
+first-at-most : {m : ℕ} (a b : ℕ) → a ≤ m → b ≤ m → first a b ≤ m
+first-at-most zero b l h = h
+first-at-most (suc a) b l h = l
+
+sides-at-most : (f : List ℕ) (w : Window) → sidesRefusal f w ≤ 8
+unfolding sidesRefusal
+sides-at-most f w =
+    first-at-most (fileRefusal f) _ (omega (arith, file-at-most f))
+    (refuse-at-most (not (leb (w .before) maxSide && leb (w .after) maxSide)) 8 0 (omega arith) (omega arith))
+
+module _ (f : List ℕ) (w : Window) (fits : Bool) where
+  by-sides : (k : ℕ) → sidesRefusal f w ≡ suc k → tableRefusal f w fits ≡ suc k
+  unfolding tableRefusal
+  by-sides k z = rw z
+
+  by-cases :
+      (t : Bool) → tableAllowed (outputsOf f) (size w) ≡ t → sidesRefusal f w ≡ 0 →
+      tableRefusal f w fits ≡ refuse (not t) 10 (refuse (not fits) 11 0)
+  by-cases t q z = table-refused f w t fits z (sym q ∙ table-allowed f w z)
+
+  ten : tableRefusal f w fits ≡ 10 ↔ RefusedByCases f w
+  ten = (λ e. from e (sidesRefusal f w) refl (tableAllowed (outputsOf f) (size w)) refl, λ r. by-cases false (r .cases) (r .sides))
+    where
+      other : (t : Bool) → refuse (not t) 11 0 ≡ 10 → ⊥
+      other true e = omega arith
+      other false e = omega arith
+
+      from :
+          tableRefusal f w fits ≡ 10 → (k : ℕ) → sidesRefusal f w ≡ k → (t : Bool) → tableAllowed (outputsOf f) (size w) ≡ t → RefusedByCases f w
+      from e (suc k) z t q = absurd (omega (arith, sides-at-most f w, by-sides k z))
+      from e zero z true q = absurd (other fits (sym (by-cases true q z) ∙ e))
+      from e zero z false q = record { sides = z; cases = q }
+
+-- a result is the refusal 10 exactly if 10 is the number
+refused-ten : (k n : ℕ) → (answer k (λ j. Refused j) (Done n) ≡ Refused 10) ↔ (k ≡ 10)
+refused-ten zero n = ((λ e. let z : _≡_ {A = ℕ} 0 1 = cc in absurd (omega arith)), λ e. absurd (omega arith))
+refused-ten (suc k) n = ((λ e. cc), λ e. rw e)
+
+pub table-limit : TableLimit
+table-limit = record {
+  exact = exactly;
+  call = λ f w before r after p.
+      let t = ten f w _ in
+      let k = refused-ten (tableRefusalIn f w (length before) true) (tableSize (outputsOf f) w) in
+      ((λ e. t .0 (k .0 (sym (p .result) ∙ e))), λ q. p .result ∙ k .1 (t .1 q));
+  call-from-C = λ f w before result r after result′ h.
+      let t = ten f w _ in ((λ e. t .0 (sym (h .number) ∙ e)), λ q. h .number ∙ t .1 q);
+}
