@@ -31,7 +31,7 @@ extern "C" {
 #endif
 
 /* The version of this header and of the library; make and pkg-config take it from here. */
-#define LOWHENITA_VERSION "1.3"
+#define LOWHENITA_VERSION "1.4"
 
 /* Limits of a coder: states, input letters, output letters; the bytes of its file. */
 #define LOWHENITA_MAX_STATES 16
@@ -186,6 +186,8 @@ size_t lowhenita_window(const uint8_t *file, size_t file_len,
  * base O is the window's first letter.
  * Field 0: the table's size, O to the power before + 1 + after.
  * Refusals, in checking order: 1 to 6, 8, 10 (more than LOWHENITA_MAX_TABLE_BYTES), 11 (table too short, or result).
+ * Number 10 by cases: the longest window has any number of letters for O = 1; 16 for 2; 10 for 3; 8 for 4; 6 for 5 and 6; 5 for 7 to 9;
+ * 4 for 10 to 16; 3 for 17 to 40; 2 for 41 to 64.
  */
 size_t lowhenita_table(const uint8_t *file, size_t file_len,
                        size_t before, size_t after,

@@ -100,6 +100,9 @@ static void table(void)
     HOLDS(wrote(0, 1, 1, 0));
     HOLDS(lowhenita_field(result, 0) == 4);
     HOLDS(lowhenita_table(a, sizeof a, 1, 0, out, 3, result, 64) == LOWHENITA_REFUSED_SHORT_BUFFER);
+    HOLDS(lowhenita_table(a, sizeof a, 8, 8, out, 4, result, 64) == LOWHENITA_REFUSED_TABLE_SIZE);
+    HOLDS(lowhenita_table(a, sizeof a, 8, 8, out, 0, result, 0) == LOWHENITA_REFUSED_TABLE_SIZE);
+    HOLDS(lowhenita_table(a, sizeof a, 8, 7, out, 4, result, 64) == LOWHENITA_REFUSED_SHORT_BUFFER);
 }
 
 static void writing(void)

@@ -15,7 +15,7 @@ use Rattle.coder.proofs.Refusals.{both-true, refuse-not, first-none, letters-be
 use Rattle.coder.proofs.Accepted.{accepted}
 use Rattle.table_size.specs.Size.{maxTable}
 use Rattle.table_size.specs.Cases.{tableAllowed}
-use Rattle.table_size.proofs.Cases.{cases-exact}
+use Rattle.table_size.proofs.Exact.{cases-exact}
 use Rattle.values.specs.Window.{size}
 use Rattle.values.specs.declared.Window.{Window}
 use Rattle.decoder.specs.Refusal.{sidesRefusal, SidesSmall, windowRefusal, stringRefusal, tableSize, tableRefusal}

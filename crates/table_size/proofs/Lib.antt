@@ -1,2 +1,3 @@
 -- The laws of the size of a decoder table.
 pub mod Cases
+pub mod Exact

@@ -18,7 +18,7 @@ use Rattle.values.specs.declared.Window.{Window}
 use Rattle.values.specs.declared.CountResult.the-variants.{Refused, Done}
 use Rattle.table_size.specs.Size.{maxTable}
 use Rattle.table_size.specs.Cases.{tableAllowed}
-use Rattle.table_size.proofs.Cases.{cases-exact}
+use Rattle.table_size.proofs.Exact.{cases-exact}
 use Rattle.decoder.specs.Refusal.{sidesRefusal, tableSize, tableRefusal}
 use Rattle.decoder.specs.Table.{tableRefusalIn}
 use Rattle.decoder.proofs.Accepting.{table-allowed, table-refused}

@@ -1,22 +1,22 @@
 -- `refusal::table` meets its contract: the refusals of the file and the sides, then 10 and 11 in order.
 use mathlib.Core.Path.{_≡_, sym, ap, ap₂, _∙_}
+use mathlib.Core.Bool.{Bool, true, false, not, _&&_}
 use Prim.Native.Nat.{ℕ, _^_, _≤_}
-use mathlib.Core.Bool.{Bool, true, not, _&&_}
 use native.Mathlib.Omega.{arith}
 use lib.Dec.{leb}
 use denote.Ref.{now}
 use borrow.Author.Needs.{needs}
-use borrow.Author.Tests.{leb-true, le-leb, not-false}
+use borrow.Author.Tests.{leb-true, le-leb, not-true, not-false}
 use Rattle.coder.specs.Refusal.{refuse}
 use Rattle.coder.specs.File.{outputsOf}
 use Rattle.coder.proofs.Refusals.{refused-first, tests, via}
 use Rattle.coder.proofs.Accepted.{accepted}
 use Rattle.values.specs.Window.{size}
+use Rattle.table_size.specs.Size.{maxTable}
+use Rattle.table_size.specs.Cases.{tableAllowed}
 use Rattle.decoder.specs.Refusal.{sidesRefusal, tableSize, tableRefusal}
 use Rattle.decoder.specs.Table.{tableRefusalIn}
 use Rattle.decoder.proofs.Accepting.{sides-accepted, table-allowed, table-refused}
-use Rattle.table_size.specs.Size.{maxTable}
-use Rattle.table_size.specs.Cases.{tableAllowed}
 use Rattle.decoder.proofs.inner.refusal.table.Statement.{statement}
 use Rattle.decoder.proofs.inner.refusal.table.Tie as tie
 
@@ -52,16 +52,10 @@ within c =
     c .allowed .ensures ∙ ap₂ tableAllowed (c .before .before .byte .ensures .0) (c .before .letters .ensures)
     ∙ table-allowed _ _ (not-refused (past-sides c))
 
-by-cases :
-    (c : tie.After-allowed) →
-    let a = past-sides c .before .before .before .args in
-    tableRefusalIn (now (a .file)) (a .w) (a .room) (a .others)
-    ≡ refuse (not (c .allowed .result)) 10
-    (refuse (not (leb (tableSize (outputsOf (now (a .file))) (a .w)) (a .room) && (a .others))) 11 0)
-by-cases c = table-refused _ _ (c .allowed .result) _ (not-refused (past-sides c)) (within c)
-
 returns-2 : tie.Need-returns-2
-returns-2 c = rw (by-cases (c .before), c .if2 .taken)
+returns-2 c =
+    sym
+    (table-refused _ _ false _ (not-refused (past-sides (c .before))) (sym (not-true _ (c .if2 .taken)) ∙ within (c .before)))
 
 is-within :
     (c : tie.Else2) →
