@@ -42,7 +42,7 @@ stringRefusal f w received fits =
 abbrev pub tableSize : ℕ → Window → ℕ
 tableSize o w = o ^ size w
 
--- A table: then 10 and 11.
+-- A table: then 10 and 11. The cases on O of document 02, 4/13, say the same as the size (`cases-exact`).
 unfoldable pub tableRefusal : List ℕ → Window → Bool → ℕ
 tableRefusal f w fits =
     first (sidesRefusal f w)

@@ -1,4 +1,4 @@
--- The most bytes that a decoder table may have (document 01, "Decoding", last sentence; refusal 10).
+-- The most bytes that a decoder table may have (document 01, "Numbers of refusal", number 10).
 use Prim.Native.Nat.{ℕ}
 
 abbrev pub maxTable : ℕ
