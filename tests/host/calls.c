@@ -189,6 +189,10 @@ void whole_table(const coder_file *f, size_t before, size_t after)
     coder c = coder_of_file(f->bytes);
     size_t letters = before + 1 + after, bytes = table_bytes(c.outputs, letters), k, d, rest;
 
+    if (bytes > MOST_TABLE) {
+        differ("a table of more than %d bytes is wanted", MOST_TABLE);
+        return;
+    }
     for (k = 0; k < bytes; k++) {
         for (d = letters, rest = k; d > 0; d--, rest /= c.outputs)
             received[d - 1] = (uint8_t)(rest % c.outputs);

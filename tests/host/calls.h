@@ -50,7 +50,8 @@ void all_strings(const coder_file *f, size_t window, size_t most);
 void all_tables(const coder_file *f, size_t most);
 void all_pairs(const coder_file *f, size_t most);
 
-/* A table of any size, each byte with an allowance of its own, in a buffer with a byte to spare. */
+/* A table of at most MOST_TABLE bytes, each with an allowance of its own, in a buffer with a byte to
+   spare. */
 void whole_table(const coder_file *f, size_t before, size_t after);
 
 #endif

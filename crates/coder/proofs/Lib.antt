@@ -1,7 +1,7 @@
 -- Laws of the coder file and its tables.
 pub mod Refusals
 pub mod Judging
-pub mod Numbers
+pub mod FileNumbers
 pub mod Accepted
 pub mod BigEndian
 pub mod Inverse

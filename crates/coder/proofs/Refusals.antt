@@ -36,10 +36,14 @@ pub both-false : (a b : Bool) → b ≡ false → (a && b) ≡ false
 both-false true b e = e
 both-false false b e = refl
 
--- no number of a chain is above m
-pub refuse-at-most : {m : ℕ} (t : Bool) (k x : ℕ) → k ≤ m → x ≤ m → refuse t k x ≤ m
-refuse-at-most true k x l h = l
-refuse-at-most false k x l h = h
+-- what holds of the numbers of a chain holds of the one that it says
+pub refuse-either : (P : ℕ → Type 0) (t : Bool) (k x : ℕ) → P k → P x → P (refuse t k x)
+refuse-either P true k x p q = p
+refuse-either P false k x p q = q
+
+pub first-either : (P : ℕ → Type 0) (a b : ℕ) → P a → P b → P (first a b)
+first-either P zero b p q = q
+first-either P (suc a) b p q = p
 
 -- a chain that says 0 has passed each of its tests
 pub refuse-none : (t : Bool) (k x : ℕ) → 0 < k → refuse t k x ≡ 0 → (t ≡ false) × (x ≡ 0)

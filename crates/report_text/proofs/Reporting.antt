@@ -11,7 +11,7 @@ use Rattle.coder.specs.Refusal.{answer}
 use Rattle.coder.specs.File.{fileRefusal, headerOf, statesOf, inputsOf, outputsOf, machineOf, settingOf}
 use Rattle.coder.specs.declared.Header.{Header}
 use Rattle.coder.specs.declared.Header.the-variants.{Refused, Counts}
-use Rattle.coder.proofs.Numbers.{file-at-most}
+use Rattle.coder.proofs.FileNumbers.{file-number}
 use Rattle.coder.proofs.Refusals.{upon-refused, upon-done}
 use Rattle.coder.proofs.Accepted.{accepted}
 use Rattle.product.proofs.Depths.{pairs-high}
@@ -50,7 +50,7 @@ header-refused f {h} {k} e d = go (fileRefusal f) refl (sym e ∙ d)
     go (suc n) q p = let z : suc n ≡ k = cc in record { by = sym z ∙ sym q; some = λ y. omega arith }
 
 pub refused-short : (f : List ℕ) {h : Header} {k : ℕ} → h ≡ headerOf f → h ≡ Refused k → k < 1000
-refused-short f e d = let r = header-refused f e d in omega (arith, r .by, file-at-most f)
+refused-short f e d = rw (header-refused f e d .by) (file-number (λ k. k < 1000) (λ k l. omega arith) f)
 
 pub record HeaderCounts (f : List ℕ) (n i o : ℕ) : Type 0 where
   pub none : fileRefusal f ≡ 0

@@ -7,7 +7,7 @@ use native.Mathlib.Omega.{arith}
 use lib.ListN.{take, drop}
 use lib.Dec.{leb}
 use borrow.Author.Tests.{leb-true, lt-leb, le-leb, leb-false}
-use Rattle.table_size.specs.Cases.{Case, cases, noLonger, allowedBy, tableAllowed}
+use Rattle.table_size.specs.Cases.{Case, tableCases, noLonger, allowedBy, tableAllowed}
 
 pub in-case :
     (c : Case) (cs : List Case) (o n : ℕ) → c .from ≤ o → o ≤ c .to → allowedBy (c ∷ cs) o n ≡ noLonger (c .longest) n
@@ -44,7 +44,7 @@ past-cases (suc k) (c ∷ cs) o n h =
 
 -- an O that the case after the first k has
 pub at-case :
-    (k o n : ℕ) {c : Case} {cs : List Case} → drop k cases ≡ c ∷ cs → largest (take k cases) < o → c .from ≤ o → o ≤ c .to →
+    (k o n : ℕ) {c : Case} {cs : List Case} → drop k tableCases ≡ c ∷ cs → largest (take k tableCases) < o → c .from ≤ o → o ≤ c .to →
     noLonger (c .longest) n ≡ tableAllowed o n
 unfolding tableAllowed
-at-case k o n {c} {cs} e p l h = sym (past-cases k cases o n p ∙ rw e (in-case c cs o n l h))
+at-case k o n {c} {cs} e p l h = sym (past-cases k tableCases o n p ∙ rw e (in-case c cs o n l h))

@@ -10,7 +10,7 @@ use borrow.Author.Tests.{leb-true, ltb-true, eqb-true, lt-leb, le-leb, leb-false
 use Rattle.coder.specs.Limits.{maxOutputs}
 use Rattle.coder.proofs.Refusals.{both-true}
 use Rattle.table_size.specs.Size.{maxTable}
-use Rattle.table_size.specs.Cases.{Longest, any, letters, Case, cases, noLonger, allowedBy, tableAllowed}
+use Rattle.table_size.specs.Cases.{Longest, any, letters, Case, tableCases, noLonger, allowedBy, tableAllowed}
 use Rattle.table_size.proofs.Cases.{in-case, past-case}
 
 one-pow : (n : ℕ) → 1 ^ n ≡ 1
@@ -18,7 +18,7 @@ one-pow zero = pow-zero 1
 one-pow (suc n) = rw (pow-suc 1 n, one-pow n)
 
 -- Whether the longest window is right for each O from `low` to `high`: the largest of these O gives a table that is not too large, and
--- with one letter more the smallest gives one that is.
+-- with one letter more the smallest gives one that is; any window only where no O is above 1.
 abbrev right : Longest → ℕ → ℕ → Bool
 right any low high = leb high 1
 right (letters m) low high = ltb 0 low && (leb (high ^ m) maxTable && ltb maxTable (low ^ suc m))
@@ -69,4 +69,4 @@ all-right low high (c ∷ cs) r o n l h =
 -- 65,536 bytes.
 pub cases-exact : (o n : ℕ) → 1 ≤ o → o ≤ maxOutputs → tableAllowed o n ≡ leb (o ^ n) maxTable
 unfolding tableAllowed
-cases-exact o n l h = all-right 1 maxOutputs cases refl o n l h
+cases-exact o n l h = all-right 1 maxOutputs tableCases refl o n l h

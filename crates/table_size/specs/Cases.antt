@@ -16,8 +16,8 @@ pub record Case : Type 0 where
   pub longest : Longest
 
 -- The page, a line a case.
-abbrev pub cases : List Case
-cases =
+abbrev pub tableCases : List Case
+tableCases =
     record { from = 1; to = 1; longest = any } ∷
     record { from = 2; to = 2; longest = letters 16 } ∷
     record { from = 3; to = 3; longest = letters 10 } ∷
@@ -29,16 +29,16 @@ cases =
     record { from = 41; to = 64; longest = letters 2 } ∷
     []
 
--- a window of n letters is no longer
+-- a window of n letters is no longer than that
 abbrev pub noLonger : Longest → ℕ → Bool
 noLonger any n = true
 noLonger (letters m) n = leb n m
 
--- Whether the first case that has this O allows windows of n letters; no where no case has it.
+-- Whether the first case that has this O allows windows of n letters; false where no case has it.
 abbrev pub allowedBy : List Case → ℕ → ℕ → Bool
 allowedBy [] o n = false
 allowedBy (c ∷ cs) o n = cond (leb (c .from) o && leb o (c .to)) (noLonger (c .longest) n) (allowedBy cs o n)
 
 -- Whether windows of n letters, O being o, may have a table.
 unfoldable pub tableAllowed : ℕ → ℕ → Bool
-tableAllowed o n = allowedBy cases o n
+tableAllowed o n = allowedBy tableCases o n

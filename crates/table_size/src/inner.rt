@@ -4,7 +4,7 @@ ghost use Prim.Native.Nat.{_^_, _≤_};
 ghost use Rattle.table_size.specs.Cases.{tableAllowed};
 ghost use Rattle.table_size.specs.Size.{maxTable};
 
-// Whether windows of n letters may have a table, by cases on O: a line a case, with the longest window allowed.
+// Whether windows of n letters may have a table, by cases on O (document 02, 4/13): a line a case, with the longest window allowed.
 pub fn allowed(outputs: usize, n: usize) -> bool
     ensures { λ r. ⌜ r ≡ tableAllowed outputs n ⌝ }
 {

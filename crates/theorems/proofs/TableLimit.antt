@@ -1,18 +1,19 @@
--- The cases on O refuse exactly the tables that are too large, and a call for a table is refused with 10 exactly where they do.
+-- The cases on O refuse exactly the tables that are too large, and a call for a table is refused with 10 exactly where they do and no number
+-- before 10 applies.
 use mathlib.Core.Path.{_≡_, refl, sym, _∙_}
 use mathlib.Core.Bool.{Bool, true, false, not, _&&_}
 use mathlib.Core.Logic.{_↔_}
 use mathlib.Core.List.{List}
-use Prim.Native.Nat.{ℕ, zero, suc, _≤_}
+use Prim.Native.Nat.{ℕ, zero, suc}
 use native.Mathlib.Omega.{arith}
 use lib.ListN.{length}
 use lib.Dec.{leb}
 use borrow.Author.Tests.{leb-false, lt-leb}
-use Rattle.coder.specs.Refusal.{refuse, first, answer}
+use Rattle.coder.specs.Refusal.{refuse, answer}
 use Rattle.coder.specs.Limits.{maxSide}
 use Rattle.coder.specs.File.{outputsOf, fileRefusal}
-use Rattle.coder.proofs.Refusals.{refuse-at-most}
-use Rattle.coder.proofs.Numbers.{file-at-most}
+use Rattle.coder.proofs.Refusals.{refuse-either, first-either}
+use Rattle.coder.proofs.FileNumbers.{file-number}
 use Rattle.values.specs.Window.{size}
 use Rattle.values.specs.declared.Window.{Window}
 use Rattle.values.specs.declared.CountResult.the-variants.{Refused, Done}
@@ -31,16 +32,15 @@ exactly o w l h s =
 
 -- ---- the calls
 
--- no number of the file and the sides is 10
-first-at-most : {m : ℕ} (a b : ℕ) → a ≤ m → b ≤ m → first a b ≤ m
-first-at-most zero b l h = h
-first-at-most (suc a) b l h = l
+abbrev NotTen : ℕ → Type 0
+NotTen k = k ≡ 10 → ⊥
 
-sides-at-most : (f : List ℕ) (w : Window) → sidesRefusal f w ≤ 8
+-- no number of the file and the sides is 10
+sides-not-ten : (f : List ℕ) (w : Window) → NotTen (sidesRefusal f w)
 unfolding sidesRefusal
-sides-at-most f w =
-    first-at-most (fileRefusal f) _ (omega (arith, file-at-most f))
-    (refuse-at-most (not (leb (w .before) maxSide && leb (w .after) maxSide)) 8 0 (omega arith) (omega arith))
+sides-not-ten f w =
+    first-either NotTen (fileRefusal f) _ (file-number NotTen (λ k l e. omega arith) f)
+    (refuse-either NotTen (not (leb (w .before) maxSide && leb (w .after) maxSide)) 8 0 (λ e. omega arith) (λ e. omega arith))
 
 module _ (f : List ℕ) (w : Window) (fits : Bool) where
   by-sides : (k : ℕ) → sidesRefusal f w ≡ suc k → tableRefusal f w fits ≡ suc k
@@ -53,17 +53,17 @@ module _ (f : List ℕ) (w : Window) (fits : Bool) where
   by-cases t q z = table-refused f w t fits z (sym q ∙ table-allowed f w z)
 
   ten : tableRefusal f w fits ≡ 10 ↔ RefusedByCases f w
-  ten = (λ e. from e (sidesRefusal f w) refl (tableAllowed (outputsOf f) (size w)) refl, λ r. by-cases false (r .cases) (r .sides))
+  ten = (λ e. from e (sidesRefusal f w) refl (tableAllowed (outputsOf f) (size w)) refl, λ r. by-cases false (r .not-allowed) (r .sides))
     where
-      other : (t : Bool) → refuse (not t) 11 0 ≡ 10 → ⊥
-      other true e = omega arith
-      other false e = omega arith
+      eleven-or-none : NotTen (refuse (not fits) 11 0)
+      eleven-or-none = refuse-either NotTen (not fits) 11 0 (λ e. omega arith) (λ e. omega arith)
 
       from :
-          tableRefusal f w fits ≡ 10 → (k : ℕ) → sidesRefusal f w ≡ k → (t : Bool) → tableAllowed (outputsOf f) (size w) ≡ t → RefusedByCases f w
-      from e (suc k) z t q = absurd (omega (arith, sides-at-most f w, by-sides k z))
-      from e zero z true q = absurd (other fits (sym (by-cases true q z) ∙ e))
-      from e zero z false q = record { sides = z; cases = q }
+          tableRefusal f w fits ≡ 10 → (k : ℕ) → sidesRefusal f w ≡ k → (t : Bool) → tableAllowed (outputsOf f) (size w) ≡ t →
+          RefusedByCases f w
+      from e (suc k) z t q = absurd (sides-not-ten f w (z ∙ sym (by-sides k z) ∙ e))
+      from e zero z true q = absurd (eleven-or-none (sym (by-cases true q z) ∙ e))
+      from e zero z false q = record { sides = z; not-allowed = q }
 
 -- a result is the refusal 10 exactly if 10 is the number
 refused-ten : (k n : ℕ) → (answer k (λ j. Refused j) (Done n) ≡ Refused 10) ↔ (k ≡ 10)

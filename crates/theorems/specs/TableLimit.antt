@@ -1,5 +1,5 @@
 -- Refusal 10 by cases on O (document 02, 4/13): the cases refuse exactly the tables that would have more than 65,536 bytes, and a call for
--- a table is refused with 10 exactly where they do. Over the promises of the calls.
+-- a table is refused with 10 exactly where they do and no number before 10 applies. Over the promises of the calls.
 use Prim.Native.Nat.{ℕ, _≤_, _<_}
 use mathlib.Core.Path.{_≡_}
 use mathlib.Core.Bool.{false}
@@ -26,7 +26,7 @@ CasesExact =
 -- Neither the file nor a side of the window is refused, and the cases refuse the table.
 pub record RefusedByCases (f : List ℕ) (w : Window) : Type 0 where
   pub sides : sidesRefusal f w ≡ 0
-  pub cases : tableAllowed (outputsOf f) (size w) ≡ false
+  pub not-allowed : tableAllowed (outputsOf f) (size w) ≡ false
 
 pub record TableLimit : Type 0 where
   pub exact : CasesExact

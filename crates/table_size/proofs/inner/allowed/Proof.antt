@@ -2,7 +2,7 @@
 use mathlib.Core.Path.{_≡_, refl, sym}
 use Prim.Native.Nat.{ℕ, _≤_, _<_}
 use native.Mathlib.Omega.{arith}
-use Rattle.table_size.specs.Cases.{cases, tableAllowed}
+use Rattle.table_size.specs.Cases.{tableCases, tableAllowed}
 use Rattle.table_size.proofs.Cases.{at-case, past-cases}
 use Rattle.table_size.proofs.inner.allowed.Statement.{statement}
 use Rattle.table_size.proofs.inner.allowed.Tie as tie
@@ -63,7 +63,7 @@ returns-11 : tie.Need-returns-11
 unfolding tableAllowed
 returns-11 c =
     let a = c .before .before .before .before .before .before .before .args in
-    sym (past-cases 9 cases (a .outputs) (a .n) (omega arith))
+    sym (past-cases 9 tableCases (a .outputs) (a .n) (omega arith))
 
 pub allowed-spec : {M : Type 1} → statement M
 allowed-spec =

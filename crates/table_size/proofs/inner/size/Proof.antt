@@ -26,7 +26,11 @@ one-more c = rw (add-one, pow-suc, c .before .loop .inv .1)
 mul-size : tie.Need-mul-size Inv-loop μ-loop
 mul-size c =
     let a = c .before .before .args in
-    omega (arith, one-more c, pow-le-pow-right {n = a .outputs} (c .before .before .pre .0) {i = c .before .loop .i + 1} {j = a .n} (omega (arith, c .loop-test .taken)))
+    omega (
+      arith,
+      one-more c,
+      pow-le-pow-right {n = a .outputs} (c .before .before .pre .0) {i = c .before .loop .i + 1} {j = a .n} (omega (arith, c .loop-test .taken)),
+    )
 
 add-i : tie.Need-add-i Inv-loop μ-loop
 add-i c = search needs

@@ -11,7 +11,6 @@ use Rattle.coder.specs.Refusal.{refuse}
 use Rattle.coder.specs.File.{outputsOf}
 use Rattle.coder.proofs.Refusals.{refused-first, tests, via}
 use Rattle.coder.proofs.Accepted.{accepted}
-use Rattle.values.specs.Window.{size}
 use Rattle.table_size.specs.Size.{maxTable}
 use Rattle.table_size.specs.Cases.{tableAllowed}
 use Rattle.decoder.specs.Refusal.{sidesRefusal, tableSize, tableRefusal}
