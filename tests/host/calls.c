@@ -184,20 +184,17 @@ void all_tables(const coder_file *f, size_t most)
 void whole_table(const coder_file *f, size_t before, size_t after)
 {
     static uint8_t wanted[MOST_TABLE];
-    uint8_t received[MOST_WINDOW];
     arguments a = plain(CALL_TABLE, f);
     coder c = coder_of_file(f->bytes);
-    size_t letters = before + 1 + after, bytes = table_bytes(c.outputs, letters), k, d, rest;
+    size_t bytes = table_bytes(c.outputs, before + 1 + after), k;
 
     if (bytes > MOST_TABLE) {
         differ("a table of more than %d bytes is wanted", MOST_TABLE);
         return;
     }
     for (k = 0; k < bytes; k++) {
-        for (d = letters, rest = k; d > 0; d--, rest /= c.outputs)
-            received[d - 1] = (uint8_t)(rest % c.outputs);
         allow_steps(ANSWER_STEPS);
-        wanted[k] = window_byte(&c, before, after, received);
+        wanted[k] = table_byte(&c, before, after, k);
         if (steps_used_up()) {
             now.answers_left++;
             return;

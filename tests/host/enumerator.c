@@ -55,20 +55,14 @@ uint64_t get_field(const uint8_t *result, size_t k)
     return value;
 }
 
-static void fill_table(const coder *c, size_t before, size_t after, uint8_t *table, size_t bytes)
+uint8_t table_byte(const coder *c, size_t before, size_t after, size_t index)
 {
     uint8_t received[MOST_WINDOW];
-    size_t letters = before + 1 + after, index, k;
+    size_t k;
 
-    for (index = 0; index < bytes; index++) {
-        size_t rest = index;
-
-        for (k = letters; k > 0; k--) {
-            received[k - 1] = (uint8_t)(rest % c->outputs);
-            rest /= c->outputs;
-        }
-        table[index] = window_byte(c, before, after, received);
-    }
+    for (k = before + 1 + after; k > 0; k--, index /= c->outputs)
+        received[k - 1] = (uint8_t)(index % c->outputs);
+    return window_byte(c, before, after, received);
 }
 
 /* The file of counts and entries: version 1; in two bytes, the higher one first, how many bytes are
@@ -119,7 +113,8 @@ int expected_answer(const arguments *a, uint8_t *lent, uint8_t *result)
         return !steps_used_up();
     case CALL_TABLE:
         count = table_bytes(c.outputs, a->before + 1 + a->after);
-        fill_table(&c, a->before, a->after, lent, count);
+        for (k = 0; k < count; k++)
+            lent[k] = table_byte(&c, a->before, a->after, k);
         put_field(result, 0, count);
         return !steps_used_up();
     default:

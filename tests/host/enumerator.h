@@ -74,6 +74,9 @@ size_t output_letter(const coder *c, size_t state, size_t input);
 /* The run from a state: writes n output letters, returns the end state. */
 size_t follow_run(const coder *c, size_t start, const uint8_t *input, size_t n, uint8_t *output);
 
+/* The byte of a table at an index, whose digits to base O are the letters, the first the highest. */
+uint8_t table_byte(const coder *c, size_t before, size_t after, size_t index);
+
 /* What an accepted call other than the search writes, into copies of its lent buffers.
    Returns 0 where the allowance did not suffice. */
 int expected_answer(const arguments *a, uint8_t *lent, uint8_t *result);

@@ -116,12 +116,12 @@ pub table-allowed :
 table-allowed f w e =
     let a = accepted f (sides-accepted f w e .file) in cases-exact (outputsOf f) (size w) (omega (arith, a)) (omega (arith, a))
 
--- 10 and 11, by a test that says whether the table is small enough
-pub table-refused :
-    (f : List ℕ) (w : Window) (small fits : Bool) → sidesRefusal f w ≡ 0 → small ≡ leb (tableSize (outputsOf f) w) maxTable →
-    tableRefusal f w fits ≡ refuse (not small) 10 (refuse (not fits) 11 0)
+-- 10 by the cases, and 11
+pub table-by-cases :
+    (f : List ℕ) (w : Window) (t fits : Bool) → sidesRefusal f w ≡ 0 → tableAllowed (outputsOf f) (size w) ≡ t →
+    tableRefusal f w fits ≡ refuse (not t) 10 (refuse (not fits) 11 0)
 unfolding tableRefusal
-table-refused f w small fits e t = rw (e, ← t)
+table-by-cases f w t fits z e = rw (z, ← table-allowed f w z, e)
 
 pub table-asked :
     (f : List ℕ) (w : Window) (before : List ℕ) (others : Bool) →

@@ -10,7 +10,7 @@ use borrow.Author.Tests.{leb-true, ltb-true, eqb-true, lt-leb, le-leb, leb-false
 use Rattle.coder.specs.Limits.{maxOutputs}
 use Rattle.coder.proofs.Refusals.{both-true}
 use Rattle.table_size.specs.Size.{maxTable}
-use Rattle.table_size.specs.Cases.{Longest, any, letters, Case, tableCases, noLonger, allowedBy, tableAllowed}
+use Rattle.table_size.specs.Cases.{Longest, any, upTo, Case, tableCases, noLonger, allowedBy, tableAllowed}
 use Rattle.table_size.proofs.Cases.{in-case, past-case}
 
 one-pow : (n : ℕ) → 1 ^ n ≡ 1
@@ -21,7 +21,7 @@ one-pow (suc n) = rw (pow-suc 1 n, one-pow n)
 -- with one letter more the smallest gives one that is; any window only where no O is above 1.
 abbrev right : Longest → ℕ → ℕ → Bool
 right any low high = leb high 1
-right (letters m) low high = ltb 0 low && (leb (high ^ m) maxTable && ltb maxTable (low ^ suc m))
+right (upTo m) low high = ltb 0 low && (leb (high ^ m) maxTable && ltb maxTable (low ^ suc m))
 
 three-true : (a b c : Bool) → (a && (b && c)) ≡ true → (a ≡ true) × (b ≡ true) × (c ≡ true)
 three-true a b c e = let p = both-true a (b && c) e in let q = both-true b c (p .1) in (p .0, q .0, q .1)
@@ -30,7 +30,7 @@ case-right :
     (l : Longest) (low high o n : ℕ) → right l low high ≡ true → low ≤ o → o ≤ high → noLonger l n ≡ leb (o ^ n) maxTable
 case-right any low high o n r l h =
     sym (le-leb (o ^ n) maxTable (omega (arith, pow-le-pow-left {n = o} {m = 1} (omega (arith, leb-true high 1 r)) n, one-pow n)))
-case-right (letters m) low high o n r l h =
+case-right (upTo m) low high o n r l h =
     let t = three-true (ltb 0 low) (leb (high ^ m) maxTable) (ltb maxTable (low ^ suc m)) r in
     go (ltb-true 0 low (t .0)) (leb-true (high ^ m) maxTable (t .1)) (ltb-true maxTable (low ^ suc m) (t .2)) (leb n m) refl
   where

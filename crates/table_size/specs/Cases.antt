@@ -4,10 +4,10 @@ use mathlib.Core.Bool.{Bool, true, false, cond, _&&_}
 use mathlib.Core.List.{List, [], _∷_}
 use lib.Dec.{leb}
 
--- The longest window allowed: any, or so many letters.
+-- The longest window allowed: any, or one of so many letters.
 pub data Longest : Type 0 where
   any : Longest
-  letters : ℕ → Longest
+  upTo : ℕ → Longest
 
 -- A case: from this O to that one, both included, the longest window allowed.
 pub record Case : Type 0 where
@@ -15,24 +15,24 @@ pub record Case : Type 0 where
   pub to : ℕ
   pub longest : Longest
 
--- The page, a line a case.
+-- The cases of the document, a line each.
 abbrev pub tableCases : List Case
 tableCases =
     record { from = 1; to = 1; longest = any } ∷
-    record { from = 2; to = 2; longest = letters 16 } ∷
-    record { from = 3; to = 3; longest = letters 10 } ∷
-    record { from = 4; to = 4; longest = letters 8 } ∷
-    record { from = 5; to = 6; longest = letters 6 } ∷
-    record { from = 7; to = 9; longest = letters 5 } ∷
-    record { from = 10; to = 16; longest = letters 4 } ∷
-    record { from = 17; to = 40; longest = letters 3 } ∷
-    record { from = 41; to = 64; longest = letters 2 } ∷
+    record { from = 2; to = 2; longest = upTo 16 } ∷
+    record { from = 3; to = 3; longest = upTo 10 } ∷
+    record { from = 4; to = 4; longest = upTo 8 } ∷
+    record { from = 5; to = 6; longest = upTo 6 } ∷
+    record { from = 7; to = 9; longest = upTo 5 } ∷
+    record { from = 10; to = 16; longest = upTo 4 } ∷
+    record { from = 17; to = 40; longest = upTo 3 } ∷
+    record { from = 41; to = 64; longest = upTo 2 } ∷
     []
 
 -- a window of n letters is no longer than that
 abbrev pub noLonger : Longest → ℕ → Bool
 noLonger any n = true
-noLonger (letters m) n = leb n m
+noLonger (upTo m) n = leb n m
 
 -- Whether the first case that has this O allows windows of n letters; false where no case has it.
 abbrev pub allowedBy : List Case → ℕ → ℕ → Bool

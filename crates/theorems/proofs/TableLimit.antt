@@ -22,7 +22,7 @@ use Rattle.table_size.specs.Cases.{tableAllowed}
 use Rattle.table_size.proofs.Exact.{cases-exact}
 use Rattle.decoder.specs.Refusal.{sidesRefusal, tableSize, tableRefusal}
 use Rattle.decoder.specs.Table.{tableRefusalIn}
-use Rattle.decoder.proofs.Accepting.{table-allowed, table-refused}
+use Rattle.decoder.proofs.Accepting.{table-by-cases}
 use Rattle.theorems.specs.TableLimit.{CasesExact, RefusedByCases, TableLimit}
 
 exactly : CasesExact
@@ -47,13 +47,8 @@ module _ (f : List ℕ) (w : Window) (fits : Bool) where
   unfolding tableRefusal
   by-sides k z = rw z
 
-  by-cases :
-      (t : Bool) → tableAllowed (outputsOf f) (size w) ≡ t → sidesRefusal f w ≡ 0 →
-      tableRefusal f w fits ≡ refuse (not t) 10 (refuse (not fits) 11 0)
-  by-cases t q z = table-refused f w t fits z (sym q ∙ table-allowed f w z)
-
   ten : tableRefusal f w fits ≡ 10 ↔ RefusedByCases f w
-  ten = (λ e. from e (sidesRefusal f w) refl (tableAllowed (outputsOf f) (size w)) refl, λ r. by-cases false (r .not-allowed) (r .sides))
+  ten = (λ e. from e (sidesRefusal f w) refl (tableAllowed (outputsOf f) (size w)) refl, λ r. table-by-cases f w false fits (r .sides) (r .not-allowed))
     where
       eleven-or-none : NotTen (refuse (not fits) 11 0)
       eleven-or-none = refuse-either NotTen (not fits) 11 0 (λ e. omega arith) (λ e. omega arith)
@@ -62,7 +57,7 @@ module _ (f : List ℕ) (w : Window) (fits : Bool) where
           tableRefusal f w fits ≡ 10 → (k : ℕ) → sidesRefusal f w ≡ k → (t : Bool) → tableAllowed (outputsOf f) (size w) ≡ t →
           RefusedByCases f w
       from e (suc k) z t q = absurd (sides-not-ten f w (z ∙ sym (by-sides k z) ∙ e))
-      from e zero z true q = absurd (eleven-or-none (sym (by-cases true q z) ∙ e))
+      from e zero z true q = absurd (eleven-or-none (sym (table-by-cases f w true fits z q) ∙ e))
       from e zero z false q = record { sides = z; not-allowed = q }
 
 -- a result is the refusal 10 exactly if 10 is the number

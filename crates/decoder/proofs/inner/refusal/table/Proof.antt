@@ -11,11 +11,11 @@ use Rattle.coder.specs.Refusal.{refuse}
 use Rattle.coder.specs.File.{outputsOf}
 use Rattle.coder.proofs.Refusals.{refused-first, tests, via}
 use Rattle.coder.proofs.Accepted.{accepted}
-use Rattle.table_size.specs.Size.{maxTable}
+use Rattle.values.specs.Window.{size}
 use Rattle.table_size.specs.Cases.{tableAllowed}
 use Rattle.decoder.specs.Refusal.{sidesRefusal, tableSize, tableRefusal}
 use Rattle.decoder.specs.Table.{tableRefusalIn}
-use Rattle.decoder.proofs.Accepting.{sides-accepted, table-allowed, table-refused}
+use Rattle.decoder.proofs.Accepting.{sides-accepted, table-allowed, table-by-cases}
 use Rattle.decoder.proofs.inner.refusal.table.Statement.{statement}
 use Rattle.decoder.proofs.inner.refusal.table.Tie as tie
 
@@ -42,31 +42,28 @@ allowed-requires c κs = search needs
 abbrev past-sides : tie.After-allowed → tie.Else1
 past-sides c = c .before .before .before
 
--- the cases say whether the table is small enough
-within :
+-- what the cases are asked
+asked :
     (c : tie.After-allowed) →
-    let a = past-sides c .before .before .before .args in
-    c .allowed .result ≡ leb (tableSize (outputsOf (now (a .file))) (a .w)) maxTable
-within c =
-    c .allowed .ensures ∙ ap₂ tableAllowed (c .before .before .byte .ensures .0) (c .before .letters .ensures)
-    ∙ table-allowed _ _ (not-refused (past-sides c))
+    let a = past-sides c .before .before .before .args in tableAllowed (outputsOf (now (a .file))) (size (a .w)) ≡ c .allowed .result
+asked c = sym (c .allowed .ensures ∙ ap₂ tableAllowed (c .before .before .byte .ensures .0) (c .before .letters .ensures))
 
 returns-2 : tie.Need-returns-2
 returns-2 c =
-    sym
-    (table-refused _ _ false _ (not-refused (past-sides (c .before))) (sym (not-true _ (c .if2 .taken)) ∙ within (c .before)))
+    sym (table-by-cases _ _ false _ (not-refused (past-sides (c .before))) (asked (c .before) ∙ not-true _ (c .if2 .taken)))
 
-is-within :
+is-allowed :
     (c : tie.Else2) →
-    let a = past-sides (c .before) .before .before .before .args in
-    true ≡ leb (tableSize (outputsOf (now (a .file))) (a .w)) maxTable
-is-within c = sym (not-false _ (c .if2 .left)) ∙ within (c .before)
+    let a = past-sides (c .before) .before .before .before .args in tableAllowed (outputsOf (now (a .file))) (size (a .w)) ≡ true
+is-allowed c = asked (c .before) ∙ not-false _ (c .if2 .left)
 
 size-requires : tie.Need-size-requires
 size-requires c κs =
-    let k = c .before in (
-      omega (arith, accepted _ (sides-accepted _ _ (not-refused (past-sides k)) .file)),
-      rw (k .before .before .byte .ensures .0, k .before .letters .ensures) (leb-true _ _ (sym (is-within c))),
+    let k = c .before in
+    let z = not-refused (past-sides k) in (
+      omega (arith, accepted _ (sides-accepted _ _ z .file)),
+      rw (k .before .before .byte .ensures .0, k .before .letters .ensures)
+          (leb-true _ _ (sym (table-allowed _ _ z) ∙ is-allowed c)),
     )
 
 by-room :
@@ -78,7 +75,7 @@ by-room c =
     let a = past-sides k .before .before .before .args in
     let m : c .size .result ≡ tableSize (outputsOf (now (a .file))) (a .w) =
     c .size .ensures ∙ ap₂ _^_ (k .before .before .byte .ensures .0) (k .before .letters .ensures) in
-    table-refused _ _ true _ (not-refused (past-sides k)) (is-within (c .before))
+    table-by-cases _ _ true _ (not-refused (past-sides k)) (is-allowed (c .before))
     ∙ ap (λ x. refuse (not (leb x (a .room) && (a .others))) 11 0) (sym m)
 
 returns-3 : tie.Need-returns-3
