@@ -10,6 +10,10 @@
  * is bytes 8 k to 8 k + 7. `result` has at least LOWHENITA_RESULT_BYTES bytes, or the call is refused with 11. Bytes past what a call
  * writes, in `result` and in any other buffer, stay as they were.
  *
+ * State 0 is the power-on state. The runs that windows, tables, decoded letters and looped pairs go by start in the states that some
+ * input string reaches from state 0, the empty string included; the other states are spare and do not count. lowhenita_run starts in any
+ * state.
+ *
  * The host owes:
  *   - each pointer is valid for its length: readable where it points to const, readable and writable otherwise;
  *   - a buffer that is written (not const) overlaps nothing else that is passed to the same call;
@@ -31,7 +35,7 @@ extern "C" {
 #endif
 
 /* The version of this header and of the library; make and pkg-config take it from here. */
-#define LOWHENITA_VERSION "1.4"
+#define LOWHENITA_VERSION "1.5"
 
 /* Limits of a coder: states, input letters, output letters; the bytes of its file. */
 #define LOWHENITA_MAX_STATES 16
@@ -122,7 +126,8 @@ static inline uint64_t lowhenita_field(const uint8_t *result, size_t k)
 }
 
 /*
- * Runs the coder from state `start` on the letters of `input`: one output letter for each input letter, at the front of `output`.
+ * Runs the coder from state `start`, reachable or not, on the letters of `input`: one output letter for each input letter, at the front
+ * of `output`.
  * Field 0: the number of letters written. Field 1: the state in which the run ends.
  * Refusals, in checking order: 1 to 6, 7, 11 (output shorter than input, or result), 12.
  */
@@ -149,7 +154,7 @@ size_t lowhenita_search(const uint8_t *file, size_t file_len,
 /*
  * Decodes each place of `received` that has a full window of `before` letters before it and `after` letters after it: one byte for
  * each, at the front of `output`: the letter that alone fits, LOWHENITA_NONE or LOWHENITA_SEVERAL. Byte k belongs to place
- * k + before.
+ * k + before. With a window that works, what a run from a reachable state has sent comes back.
  * Field 0: the number of bytes written, received_len - before - after, or 0 where the string is shorter than one window.
  * Refusals, in checking order: 1 to 6, 8, 11 (output too short, or result), 13.
  */
@@ -161,7 +166,7 @@ size_t lowhenita_decode(const uint8_t *file, size_t file_len,
 
 /*
  * Judges a looped pair from anyone: start states s and t, four lengths, and in `letters` two bytes for each letter.
- * Field 0: 1 for a valid pair, 0 for any other.
+ * Field 0: 1 for a valid pair, 0 for any other. A pair of which s or t is a spare state is not valid.
  * Refusals, in checking order: 1 to 6, 7, 9 (letters_len is not twice the letters), 11 (result), 12.
  */
 size_t lowhenita_check(const uint8_t *file, size_t file_len,

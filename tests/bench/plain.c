@@ -100,11 +100,30 @@ size_t plain_write(size_t states, size_t inputs, size_t outputs, const uint8_t *
 
 /* ---- decoding ---- */
 
+/* The states in which a run starts, those that some input string reaches from state 0: each state is followed
+   once. */
+static uint16_t start_states(const coder *c)
+{
+    unsigned reached = 1, rest = 1;
+
+    while (rest) {
+        size_t s = (size_t)__builtin_ctz(rest), i;
+        unsigned next = 0;
+
+        rest &= rest - 1;
+        for (i = 0; i < c->inputs; i++)
+            next |= 1u << c->next[16 * s + i];
+        rest |= next & ~reached;
+        reached |= next;
+    }
+    return (uint16_t)reached;
+}
+
 /* For each output letter and state, of the entries with that output: the states to which those of the state
    lead, the states from which they lead to it, and the input letters of those of the state. */
 typedef struct sets {
     uint16_t to[64][16], from[64][16], letters[64][16];
-    uint16_t all;
+    uint16_t all, starts;
 } sets;
 
 static void make_sets(const coder *c, sets *d)
@@ -113,6 +132,7 @@ static void make_sets(const coder *c, sets *d)
 
     memset(d, 0, sizeof *d);
     d->all = (uint16_t)((1u << c->states) - 1);
+    d->starts = start_states(c);
     for (s = 0; s < c->states; s++)
         for (i = 0; i < c->inputs; i++) {
             size_t t = c->next[16 * s + i], o = c->out[16 * s + i];
@@ -142,7 +162,7 @@ static uint8_t answer(unsigned letters)
 /* One window: forward to the present letter, backward from the end, and the entries between the two. */
 static uint8_t decode_window(const coder *c, const sets *d, const uint8_t *w, size_t before, size_t after)
 {
-    unsigned f = d->all, g = d->all, found = 0;
+    unsigned f = d->starts, g = d->all, found = 0;
     const uint16_t *letters = d->letters[w[before]];
     size_t k;
 
@@ -272,7 +292,7 @@ size_t plain_table(const uint8_t *file, size_t file_len, size_t before, size_t a
 
         *table = decode_window(&c, &d, w, before, after);
     } else {
-        fill(&c, &d, before, size, d.all, table);
+        fill(&c, &d, before, size, d.starts, table);
     }
     *count = size;
     return 0;
@@ -289,13 +309,13 @@ static void depths(const coder *c, const uint8_t *near, const uint8_t *far, uint
     static uint16_t to[64][16];
     uint16_t rows[16], fresh[16];
     size_t s, t, e, i, level = 1;
-    uint16_t all = (uint16_t)((1u << c->states) - 1);
+    uint16_t starts = start_states(c);
     int changed = 1;
 
     memset(to, 0, sizeof to);
     memset(depth, 0, 256);
     for (s = 0; s < c->states; s++) {
-        rows[s] = all;
+        rows[s] = starts >> s & 1 ? starts : 0;
         for (i = 0; i < c->inputs; i++) {
             e = 16 * s + i;
             to[c->out[e]][far[e]] |= (uint16_t)(1u << near[e]);
@@ -530,7 +550,8 @@ static void find_pair(const coder *c, uint8_t *letters, plain_verdict *v)
     differing_costs(&m, after, whole);
     lower_costs(&m, LETTER + LEAD_IN, whole);
     for (p = 1; p < 16 * c->states; p++)
-        if (loop[p] + whole[p] / LETTER < loop[start] + whole[start] / LETTER)
+        if ((m.d.starts >> p / 16 & m.d.starts >> p % 16 & 1)
+            && loop[p] + whole[p] / LETTER < loop[start] + whole[start] / LETTER)
             start = p;
     v->is_pair = 1;
     v->s = start / 16;

@@ -8,6 +8,7 @@
 static const uint8_t a[] = {1, 0, 11, 2, 2, 2, 0, 0, 1, 1, 1, 1, 0, 0};
 static const uint8_t c[] = {1, 0, 7, 1, 2, 1, 0, 0, 0, 0};
 static const uint8_t g[] = {1, 0, 19, 4, 2, 6, 1, 4, 1, 5, 2, 0, 3, 0, 2, 0, 2, 1, 3, 2, 3, 3};
+static const uint8_t h[] = {1, 0, 11, 2, 2, 2, 0, 0, 0, 1, 1, 0, 1, 0};
 static uint8_t result[64], other[64], letters[1026], out[4];
 static unsigned passed, failed;
 
@@ -83,6 +84,15 @@ static void check(void)
     HOLDS(lowhenita_field(result, 0) == 1);
     HOLDS(lowhenita_check(a, sizeof a, 0, 0, 1, 0, 0, 1, pair, 6, result, 64) == 0);
     HOLDS(lowhenita_field(result, 0) == 0);
+    HOLDS(lowhenita_check(h, sizeof h, 1, 1, 1, 0, 0, 1, pair, 6, result, 64) == 0);
+    HOLDS(lowhenita_field(result, 0) == 0);
+    HOLDS(lowhenita_check(h, sizeof h, 1, 2, 1, 0, 0, 1, pair, 6, result, 64) == LOWHENITA_REFUSED_START_STATE);
+    HOLDS(lowhenita_search(h, sizeof h, letters, 1026, result, 64) == 0);
+    HOLDS(lowhenita_field(result, 0) == LOWHENITA_WINDOW);
+    HOLDS(lowhenita_field(result, 1) == 0);
+    HOLDS(lowhenita_field(result, 2) == 0);
+    HOLDS(lowhenita_run(h, sizeof h, 1, pair, 3, out, 4, result, 64) == 0);
+    HOLDS(lowhenita_field(result, 1) == 1);
 }
 
 static void window(void)

@@ -71,24 +71,41 @@ void compare_some_of_each(const coder_file *f)
     compare_random(CALL_WRITE, f);
 }
 
-void round_trip(const coder_file *f)
+/* What a run from this state sends, on random letters that are left in `input`, as a string to be
+   decoded with the window found. */
+static arguments sent_from(const coder_file *f, size_t start, uint8_t *input)
 {
-    static uint8_t input[1024];
     coder c = coder_of_file(f->bytes);
     arguments a = plain(CALL_DECODE, f);
     size_t n;
 
-    if (!found->known || found->is_pair)
-        return;
     a.before = found->before;
     a.after = found->after;
     n = a.before + a.after + random_below(200);
     random_letters(n, c.inputs);
     memcpy(input, letters_room, n);
-    follow_run(&c, random_below(c.states), input, n, letters_room);
+    follow_run(&c, start, input, n, letters_room);
     a.bytes_len = n;
     a.lent_len = n - a.before - a.after;
+    return a;
+}
+
+void round_trip(const coder_file *f)
+{
+    static uint8_t input[1024];
+    coder c = coder_of_file(f->bytes);
+    arguments a;
+    size_t start;
+
+    if (!found->known || found->is_pair)
+        return;
+    a = sent_from(f, c.start[random_below(c.starts)], input);
     compare_known(&a, input + a.before, a.lent_len);
+    start = random_below(c.states);
+    if (is_start(&c, start))
+        return;
+    a = sent_from(f, start, input);
+    compare(&a);
 }
 
 void compare_both_ways(const coder_file *f, size_t most)

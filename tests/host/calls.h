@@ -30,7 +30,8 @@ void known_search(const coder_file *f, int is_pair, size_t before, size_t after)
 void known_pair(const size_t numbers[6]);
 void known_letters(const uint8_t *letters, size_t len);
 
-/* A run decoded with the window found gives its own letters back; the enumerator is not asked. */
+/* A run from a reachable state, decoded with the window found, gives its own letters back; the
+   enumerator is not asked. At times one from a spare state too, and then it is. */
 void round_trip(const coder_file *f);
 
 /* The enumerator's two ways to try a window agree, for windows of at most so many letters. */

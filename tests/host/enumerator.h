@@ -18,10 +18,13 @@ enum {
     RESULT_BYTES = 64
 };
 
-/* The coder of an accepted file: its three counts and its entries, two bytes each. */
+/* The coder of an accepted file: its three counts and its entries, two bytes each; and the states
+   in which a run starts, those that some input string reaches from state 0 (document 02, 5/13), in
+   the order of their numbers. */
 typedef struct coder {
     size_t states, inputs, outputs;
     const uint8_t *entries;
+    size_t starts, start[MOST_STATES];
 } coder;
 
 /* Two runs in step; the letters are two bytes each, first run, second run. */
@@ -70,6 +73,13 @@ size_t full_windows(const arguments *a);
 coder coder_of_file(const uint8_t *file);
 size_t next_state(const coder *c, size_t state, size_t input);
 size_t output_letter(const coder *c, size_t state, size_t input);
+
+/* Whether a run starts in this state. */
+int is_start(const coder *c, size_t state);
+
+/* The states that the strings of up to so many letters reach, every string tried: reached[s] becomes
+   1 for these. Returns 0, with nothing said, where there are more strings than given. */
+int reached_by_strings(const coder *c, size_t letters, size_t most, uint8_t *reached);
 
 /* The run from a state: writes n output letters, returns the end state. */
 size_t follow_run(const coder *c, size_t start, const uint8_t *input, size_t n, uint8_t *output);

@@ -78,16 +78,19 @@ static int try_lengths(trial *r)
 int each_valid_pair(const coder *c, size_t letters, int (*take)(const pair *p, void *to), void *to)
 {
     trial r;
+    size_t k;
 
     r.c = c;
     r.letters = letters;
     r.p.letters = r.bytes;
     r.take = take;
     r.to = to;
-    for (r.p.s = 0; r.p.s < c->states; r.p.s++)
-        for (r.p.t = 0; r.p.t < c->states; r.p.t++)
-            if (try_lengths(&r))
-                return 1;
+    for (k = 0; k < c->starts * c->starts; k++) {
+        r.p.s = c->start[k / c->starts];
+        r.p.t = c->start[k % c->starts];
+        if (try_lengths(&r))
+            return 1;
+    }
     return 0;
 }
 

@@ -71,8 +71,8 @@ static size_t member_from(const set *a, size_t p)
 
 /* ---- steps ---- */
 
-/* Pair (u, v) has the number N u + v. Where steps lead from each pair, and where steps with
-   different letters do. */
+/* Pair (u, v) has the number N u + v. Where steps lead from each pair that two runs can come to,
+   and where steps with different letters do. From the other pairs none leads. */
 static size_t pairs;
 static set any[PAIRS], apart[PAIRS];
 
@@ -92,15 +92,14 @@ static void list_letter(const coder *c, size_t u, size_t v, size_t i)
 
 static void list_steps(const coder *c)
 {
-    size_t u, v, i;
+    size_t k, i;
 
     pairs = c->states * c->states;
     memset(any, 0, pairs * sizeof *any);
     memset(apart, 0, pairs * sizeof *apart);
-    for (u = 0; u < c->states; u++)
-        for (v = 0; v < c->states; v++)
-            for (i = 0; i < c->inputs; i++)
-                list_letter(c, u, v, i);
+    for (k = 0; k < c->starts * c->starts; k++)
+        for (i = 0; i < c->inputs; i++)
+            list_letter(c, c->start[k / c->starts], c->start[k % c->starts], i);
 }
 
 /* The pairs to which a step leads from the set, and those from which one leads into it. */

@@ -31,6 +31,8 @@ int pair_valid(const coder *c, const pair *p)
 {
     size_t marked = marked_place(p), state[2], begin[2];
 
+    if (!is_start(c, p->s) || !is_start(c, p->t))
+        return 0;
     if (p->back_loop == 0 || p->forward_loop == 0)
         return 0;
     if (p->letters[2 * marked] == p->letters[2 * marked + 1])

@@ -46,9 +46,9 @@ static size_t limited_power(size_t base, size_t n, size_t limit)
 /* Run number r of n letters: its letters, and its output string as a number to base O. */
 static size_t numbered_run(const coder *c, size_t r, size_t n, uint8_t *letters)
 {
-    size_t state = r % c->states, word = 0, k;
+    size_t state = c->start[r % c->starts], word = 0, k;
 
-    r /= c->states;
+    r /= c->starts;
     for (k = 0; k < n; k++) {
         letters[k] = (uint8_t)(r % c->inputs);
         r /= c->inputs;
@@ -81,7 +81,7 @@ int fails_by_groups(const coder *c, size_t n, size_t most, uint8_t *fails)
     const size_t step = 1000003;
     size_t inputs = limited_power(c->inputs, n, most);
     size_t words = limited_power(c->outputs, n, MOST_WORDS);
-    size_t runs = inputs * c->states, marked = 0, r = 0, k;
+    size_t runs = inputs * c->starts, marked = 0, r = 0, k;
     uint8_t letters[64], earlier[64];
 
     memset(fails, 0, n);
@@ -118,7 +118,8 @@ static int first_time(tried *d, size_t s, size_t t)
     return 1;
 }
 
-/* The entries that lead out of each state, or into it: the state at the other end, the output. */
+/* The entries that a run can follow, out of each state or into it: the state at the other end, the
+   output. A run that starts in a reachable state stays in such states. */
 typedef struct ends {
     size_t count[MOST_STATES];
     uint8_t other[MOST_STATES][MOST_STATES * MOST_INPUTS];
@@ -135,12 +136,14 @@ static void add_entry(ends *e, size_t state, size_t other, size_t output)
 
 static void list_entries(const coder *c, ends *out, ends *in)
 {
-    size_t s, i;
+    size_t k, i;
 
     memset(out->count, 0, sizeof out->count);
     memset(in->count, 0, sizeof in->count);
-    for (s = 0; s < c->states; s++)
+    for (k = 0; k < c->starts; k++)
         for (i = 0; i < c->inputs; i++) {
+            size_t s = c->start[k];
+
             add_entry(out, s, next_state(c, s, i), output_letter(c, s, i));
             add_entry(in, next_state(c, s, i), s, output_letter(c, s, i));
         }
@@ -181,18 +184,20 @@ static int runs_around(const coder *c, const ends *out, const ends *in, size_t b
 enum answer works_by_pairs(const coder *c, size_t before, size_t after)
 {
     static ends out, in;
-    size_t from[2], by[2];
+    size_t from[2], by[2], k;
 
     list_entries(c, &out, &in);
-    for (from[0] = 0; from[0] < c->states; from[0]++)
-        for (from[1] = 0; from[1] < c->states; from[1]++)
-            for (by[1] = 1; by[1] < c->inputs; by[1]++)
-                for (by[0] = 0; by[0] < by[1]; by[0]++) {
-                    if (runs_around(c, &out, &in, before, after, from, by))
-                        return NO;
-                    if (steps_used_up())
-                        return UNKNOWN;
-                }
+    for (k = 0; k < c->starts * c->starts; k++) {
+        from[0] = c->start[k / c->starts];
+        from[1] = c->start[k % c->starts];
+        for (by[1] = 1; by[1] < c->inputs; by[1]++)
+            for (by[0] = 0; by[0] < by[1]; by[0]++) {
+                if (runs_around(c, &out, &in, before, after, from, by))
+                    return NO;
+                if (steps_used_up())
+                    return UNKNOWN;
+            }
+    }
     return YES;
 }
 
@@ -229,15 +234,15 @@ static enum answer letter_fits(const coder *c, size_t before, size_t after, cons
                                size_t letter)
 {
     request q;
-    size_t s;
+    size_t k;
 
     q.c = c;
     q.received = received;
     q.letters = before + 1 + after;
     q.marked = before;
     q.letter = letter;
-    for (s = 0; s < c->states; s++)
-        if (run_matches(&q, s, 0))
+    for (k = 0; k < c->starts; k++)
+        if (run_matches(&q, c->start[k], 0))
             return YES;
     return steps_used_up() ? UNKNOWN : NO;
 }

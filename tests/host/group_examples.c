@@ -62,10 +62,9 @@ static void known_pair_of_c(const coder_file *f)
 
 static void known_orders(const example *e)
 {
-    enum answer works = e->pair ? NO : YES;
-    const least known[ORDERS] = {{works, e->before, e->after},
-                                 {works, e->fewest_before, e->fewest_after}};
+    least known[ORDERS];
 
+    known_windows(e, known);
     name_known_orders(&e->file, known, 1);
 }
 

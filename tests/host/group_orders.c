@@ -3,6 +3,7 @@
 #include "calls.h"
 #include "case_texts.h"
 #include "groups.h"
+#include "named_orders.h"
 
 #include <string.h>
 
@@ -27,11 +28,10 @@ static void refused(const uint8_t *file, size_t len, size_t lent, size_t number)
 static void edge_buffers(const example *e)
 {
     coder c = coder_of_file(e->file.bytes);
-    enum answer works = e->pair ? NO : YES;
-    const least known[ORDERS] = {{works, e->before, e->after},
-                                 {works, e->fewest_before, e->fewest_after}};
+    least known[ORDERS];
     int order;
 
+    known_windows(e, known);
     text_file(e->file.bytes, e->file.len);
     for (order = 0; order < ORDERS; order++)
         text_answer((enum order)order, SEARCH_BYTES, &known[order], first_pair_of(&c));

@@ -17,6 +17,7 @@ void group_damaged(const char *name, size_t faults, size_t count);
 void group_ties(void);
 void group_writer(void);
 void group_table_limit(void);
+void group_spare(void);
 void group_orders(void);
 
 #endif

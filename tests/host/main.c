@@ -5,12 +5,13 @@
    verdict.c says how the verdict of a search is judged, and what can be tried besides. All of that
    is tried for the examples, all small coders and the small random ones; for the large random
    coders the windows that come before the one found, the cut pair of every 40th, and the first pair
-   with a smaller allowance; for the chains, as much as their number of states allows; for the edges
+   with a smaller allowance; for the spare states the windows before and the first pair, with a
+   smaller allowance still; for the chains, as much as their number of states allows; for the edges
    and the coders with ties, the first pair; for the other groups nothing.
 
-   Cases in named orders (named_orders.c) are written for the examples, all small coders, the small
-   random ones, the chains, and the changed chains of up to 6 states; cases of the reader and of the
-   writer (group_writer.c) for the examples and for random coders. */
+   Cases in named orders (named_orders.c) are written for the examples, padded ones too, all small
+   coders, the small random ones, the chains, and the changed chains of up to 6 states; cases of the
+   reader and of the writer (group_writer.c) for the examples and for random coders. */
 #include "case_texts.h"
 #include "coders.h"
 #include "compare.h"
@@ -50,6 +51,7 @@ int main(int count, char **words)
     group_ties();
     group_writer();
     group_table_limit();
+    group_spare();
     group_orders();
     return end_groups();
 }

@@ -36,6 +36,16 @@ static void same_window(const least *got, const least *wanted)
     known_value("the least window's after", got->after, wanted->after);
 }
 
+void known_windows(const example *e, least known[ORDERS])
+{
+    enum answer works = e->pair ? NO : YES;
+    const least lookahead = {works, e->before, e->after};
+    const least letters = {works, e->fewest_before, e->fewest_after};
+
+    known[LEAST_LOOKAHEAD] = lookahead;
+    known[FEWEST_LETTERS] = letters;
+}
+
 void name_orders(const coder_file *f)
 {
     coder c = coder_of_file(f->bytes);

@@ -12,4 +12,7 @@ void name_orders(const coder_file *f);
 /* Cases with the windows known beforehand; where asked, the enumerator has to find the same. */
 void name_known_orders(const coder_file *f, const least known[ORDERS], int enumerate);
 
+/* What is known of an example: the least window in each order, or that none works. */
+void known_windows(const example *e, least known[ORDERS]);
+
 #endif

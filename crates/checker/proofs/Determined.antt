@@ -1,21 +1,23 @@
 -- The promise of the checker leaves one result: some result meets it, and two that meet it for the same arguments are equal.
 use mathlib.Core.Path.{_≡_, refl, sym, ap, _∙_}
 use mathlib.Core.Bool.{true}
-use mathlib.Core.Logic.{Dec·not}
 use mathlib.Core.List.{List}
 use Prim.Native.Nat.{ℕ, zero, suc}
-use native.Mathlib.Decide.{decLt, ℕ-discrete}
+use native.Mathlib.Decide.{ℕ-discrete}
 use Rattle.mealy.specs.LoopedPair.{LoopedPair, Valid}
 use Rattle.coder.specs.Refusal.{upon}
-use Rattle.coder.specs.File.{settingOf, machineOf}
+use Rattle.coder.specs.File.{settingOf}
 use Rattle.checker.specs.Check.{checkRefusal, CheckedRight, CheckPromise}
 use Rattle.coder.specs.Refusal.{Judges}
 use Rattle.checker.specs.declared.CheckResult.{CheckResult}
 use Rattle.checker.specs.declared.CheckResult.the-variants.{Refused, Checked}
+use Rattle.coder.proofs.Accepted.{accepted}
+use Rattle.coder.proofs.Tables.{dec-start}
 use Rattle.coder.proofs.Judging.{judges-same, judges-decided}
 use Rattle.coder.proofs.Refusals.{upon-refused, upon-done}
-use Rattle.checker.proofs.Checking.{right}
+use Rattle.checker.proofs.Checking.{check-accepted, right}
 use Rattle.mealy.proofs.PairDecisions.{dec-valid}
+use Rattle.mealy.proofs.Plain.{dec-conflict}
 
 module _ (f : List ℕ) (p : LoopedPair) where
   judged : {r : CheckResult} → (a : CheckedRight f p r) → Judges (Valid (settingOf f) p) (a .answer)
@@ -34,7 +36,7 @@ module _ (f : List ℕ) (p : LoopedPair) where
   check-exists =
       elim (ℕ-discrete (checkRefusal f p true) 0) [
         | yes e ↦
-            let valid = dec-valid (settingOf f) (λ s. decLt s (machineOf f .states)) (λ i j. Dec·not (ℕ-discrete i j)) p in
+            let valid = dec-valid (settingOf f) (dec-start f (accepted f (check-accepted f p true e .file))) dec-conflict p in
             let d = judges-decided valid in
             (Checked (d .0), upon-done _ _ _ e (right (d .1)))
         | no h ↦ (Refused (checkRefusal f p true), upon-refused _ _ _ refl h refl)

@@ -1,5 +1,5 @@
 -- Laws of the tests and chains of numbers that refusals are made of.
-use mathlib.Core.Path.{_≡_, refl, sym, _∙_}
+use mathlib.Core.Path.{_≡_, refl, sym, _∙_, subst}
 use mathlib.Core.Bool.{Bool, true, false, not, _&&_}
 use mathlib.Core.List.{List, [], _∷_}
 use mathlib.Core.Logic.{⊎-elim}
@@ -82,6 +82,15 @@ upon-refused (suc k) refused done e h p = rw e at p
 pub upon-done : (k : ℕ) (refused : ℕ → Type 0) (done : Type 0) → k ≡ 0 → done → upon k refused done
 upon-done zero refused done e p = p
 upon-done (suc k) refused done e p = absurd (omega arith)
+
+-- a promise under another name of the refusal, where an answer gives more
+pub upon-map :
+    (refused : ℕ → Type 0) (done done′ : Type 0) {k k′ : ℕ} → k ≡ k′ → (done → done′) → upon k refused done → upon k′ refused done′
+upon-map refused done done′ {k} e f p = subst (λ j. upon j refused done′) e (go k p)
+  where
+    go : (j : ℕ) → upon j refused done → upon j refused done′
+    go zero p = f p
+    go (suc j) p = p
 
 -- a test of every number below n
 pub all-more : (n : ℕ) (p : ℕ → Bool) → p n ≡ true → allBelow n p ≡ true → allBelow (n + 1) p ≡ true

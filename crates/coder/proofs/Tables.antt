@@ -10,7 +10,9 @@ use lib.ListN.{getD, List·getD-eq-default}
 use lib.Dec.{ltb}
 use borrow.Author.Tests.{ltb-true, ltb-false, lt-ltb, le-ltb}
 use Rattle.mealy.specs.Machine.{Total}
-use Rattle.coder.specs.File.{statesOf, inputsOf, outputsOf, entriesOf, entryOf, machineOfEntries, machineOf}
+use Rattle.mealy.specs.Setting.{Bounded}
+use Rattle.mealy.proofs.ReachableStates.{reachable-bounded, dec-reachable}
+use Rattle.coder.specs.File.{statesOf, inputsOf, outputsOf, entriesOf, entryOf, machineOfEntries, machineOf, settingOf}
 use Rattle.coder.specs.Table.{tableOf, coderOfEntries, coderOf, tableAt, machineOfCoder, Sound}
 use Rattle.coder.specs.declared.inner.tables.Coder.{Coder}
 use Rattle.coder.proofs.Accepted.{EntriesAccepted, Accepted}
@@ -149,6 +151,17 @@ module _ (f : List ℕ) (a : Accepted f) where
   pub total : Total (machineOf f)
   unfolding machineOf
   total s i p q = next-entry-below (a .entries) s i
+
+  pub some-state : 0 < machineOf f .states
+  unfolding machineOf
+  some-state = a .entries .limits .states-low
+
+  -- a start state is a state, and whether a number is one can be decided
+  pub start-below : Bounded (settingOf f)
+  start-below = reachable-bounded (machineOf f) total some-state
+
+  pub dec-start : (s : ℕ) → Dec (settingOf f .Start s)
+  dec-start = dec-reachable (machineOf f) total some-state
 
   pub sound-coder : Sound (coderOf f)
   unfolding coderOf

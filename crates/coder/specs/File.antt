@@ -6,7 +6,7 @@ use mathlib.Core.List.{List, [], _∷_, _++_}
 use lib.ListN.{length, getD, drop}
 use lib.Dec.{ltb, leb, eqb}
 use Rattle.mealy.specs.Machine.{Machine}
-use Rattle.mealy.specs.Setting.{Setting, anyState}
+use Rattle.mealy.specs.Setting.{Setting, fromReachable}
 use Rattle.coder.specs.Refusal.{refuse, answer, allBelow}
 use Rattle.coder.specs.Limits.{maxStates, maxInputs, maxOutputs}
 use Rattle.coder.specs.BigEndian.{bigEndian, fromBigEndian}
@@ -94,6 +94,6 @@ machineOfEntries n i entries =
 unfoldable pub machineOf : List ℕ → Machine
 machineOf f = machineOfEntries (statesOf f) (inputsOf f) (entriesOf f)
 
--- Its setting: a run may start in any state, and different letters are to be told apart.
+-- Its setting: a run may start in any reachable state (document 02, 5/13), and different letters are to be told apart.
 abbrev pub settingOf : List ℕ → Setting
-settingOf f = anyState (machineOf f)
+settingOf f = fromReachable (machineOf f)

@@ -6,14 +6,13 @@ use Prim.Native.Nat.{ℕ, _+_, _<_}
 use native.Mathlib.Omega.{arith}
 use lib.ListN.{length, getD, take, drop}
 use Rattle.mealy.specs.Machine.{outs, Letters}
+use Rattle.mealy.specs.Reachable.{Reachable}
 use Rattle.mealy.specs.Window.{Works}
 use Rattle.mealy.specs.Answer.{letter}
 use Rattle.mealy.proofs.Answers.{length-outs}
 use Rattle.mealy.proofs.ComesBack.{comes-back-at}
-use Rattle.mealy.proofs.Plain.{any-closed}
-use Rattle.coder.specs.File.{fileRefusal, statesOf, inputsOf, machineOf}
-use Rattle.coder.proofs.Accepted.{accepted}
-use Rattle.coder.proofs.Tables.{total}
+use Rattle.mealy.proofs.ReachableStates.{reachable-closed}
+use Rattle.coder.specs.File.{fileRefusal, inputsOf, machineOf}
 use Rattle.fitting.proofs.Answers.{right-byte-unique}
 use Rattle.coder.specs.File.{settingOf}
 use Rattle.values.specs.Window.{size}
@@ -24,7 +23,7 @@ use Rattle.decoder.specs.Places.{places, ByteAt, stringRefusalIn, String
 
 pub string-comes-back :
     (f : List ℕ) (w : Window) (s : ℕ) (xs before : List ℕ) (r : CountResult) (after : List ℕ) → fileRefusal f ≡ 0 →
-    Works (settingOf f) (w .before) (w .after) → s < statesOf f → Letters (inputsOf f) xs →
+    Works (settingOf f) (w .before) (w .after) → Reachable (machineOf f) s → Letters (inputsOf f) xs →
     stringRefusalIn f w (outs (machineOf f) s xs) (length before) true ≡ 0 →
     StringPromise f w (outs (machineOf f) s xs) before r after → (k : ℕ) → k < places (length xs) w →
     getD after k 0 ≡ getD xs (k + w .before) 0
@@ -38,7 +37,7 @@ string-comes-back f w s xs before r after z works start letters accepted-call p 
     (record {
       answer = letter (getD xs (k + b) 0);
       right =
-          comes-back-at (settingOf f) (λ i j d. d) b (w .after) works (any-closed (machineOf f) (total f (accepted f z))) s xs k
+          comes-back-at (settingOf f) (λ i j d. d) b (w .after) works (reachable-closed (machineOf f)) s xs k
           start letters (omega arith);
       byte = refl;
     })

@@ -1,17 +1,18 @@
 -- What the decoder's core gives on the tables of an accepted file: right answers and right bytes.
-use mathlib.Core.Path.{_≡_, refl, ap, subst}
+use mathlib.Core.Path.{_≡_, refl, sym, ap, subst}
 use mathlib.Core.List.{List, _++_}
-use Prim.Native.Nat.{ℕ, _-_, _^_, _≤_, _<_}
+use Prim.Native.Nat.{ℕ, _^_, _≤_, _<_}
 use lib.ListN.{length, take, drop}
-use Rattle.mealy.specs.Setting.{anyState}
+use Rattle.mealy.specs.Setting.{fromReachable}
 use Rattle.mealy.specs.Index.{windowAt}
 use Rattle.mealy.specs.Word.{Holds}
 use Rattle.coder.specs.File.{fileRefusal, outputsOf, machineOf, settingOf}
 use Rattle.coder.specs.Table.{coderOf, Sound}
 use Rattle.coder.specs.declared.inner.tables.Coder.{Coder}
 use Rattle.coder.proofs.Accepted.{accepted}
+use Rattle.coder.proofs.Tables.{total}
+use Rattle.starts.proofs.Computed.{foundWord, reachable-holds}
 use Rattle.setting.specs.Words.{settingOfCoder}
-use Rattle.setting.proofs.Numbers.{holds-all}
 use Rattle.setting.proofs.Same.{coder-sound, coder-machine}
 use Rattle.chains.specs.Chain.{Keys}
 use Rattle.chains.proofs.Entries.{output-keys}
@@ -56,10 +57,10 @@ module _ {c : Coder} {f : List ℕ} (h : CoderOf c f) where
   -- its setting is the file's
   pub byte-of : (w : List ℕ) (b : ℕ) {v : ℕ} → RightByte (settingOfCoder c) w b v → RightByte (settingOf f) w b v
   unfolding machineOf
-  byte-of w b {v} = subst (λ M. RightByte (anyState M) w b v) (coder-machine (h .is) (accepted f (h .file)))
+  byte-of w b {v} = subst (λ M. RightByte (fromReachable M) w b v) (coder-machine (h .is) (accepted f (h .file)))
 
   pub right-of : (w : List ℕ) (b : ℕ) (v : Answer) → Right (settingOfCoder c) w b v → Right (settingOf f) w b v
-  right-of w b v = subst (λ M. Right (anyState M) w b v) (coder-machine (h .is) (accepted f (h .file)))
+  right-of w b v = subst (λ M. Right (fromReachable M) w b v) (coder-machine (h .is) (accepted f (h .file)))
 
   module _ {starts : ℕ} (s : Holds (settingOfCoder c .Start) starts) where
     -- one window
@@ -96,9 +97,15 @@ module _ {c : Coder} {f : List ℕ} (h : CoderOf c f) where
       let there : k < o ^ n = rw (eo, en, ← ec) l in
       rw (← eo, ← en) (byte-of (windowAt o n k) (w .before) (g .is k there))))
 
--- the start states of a file's coder
+-- the start states of a file's machine
 abbrev pub startsOf : List ℕ → ℕ
-startsOf f = 2 ^ coderOf f .states - 1
+startsOf f = foundWord (machineOf f) (machineOf f .states)
+
+pub starts-hold : (f : List ℕ) → fileRefusal f ≡ 0 → Holds (settingOf f .Start) (startsOf f)
+unfolding machineOf
+starts-hold f z =
+    let a = accepted f z in
+    reachable-holds (machineOf f) (total f a) (a .entries .limits .states-low) (a .entries .limits .states-high)
 
 -- the answer of an accepted file for the letters of a window
 pub file-right :
@@ -106,4 +113,5 @@ pub file-right :
     Right (settingOf f) w b (decoded (coderOf f) (startsOf f) w b)
 file-right f z w b l =
     let h : CoderOf (coderOf f) f = record { is = refl; file = z } in
-    answer-right h (holds-all (coderOf f .states) (sound-of h .states-high)) w b l refl
+    let same = coder-machine (h .is) (accepted f z) in
+    answer-right h (subst (λ M. Holds (fromReachable M .Start) (startsOf f)) (sym same) (starts-hold f z)) w b l refl

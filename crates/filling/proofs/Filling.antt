@@ -5,7 +5,7 @@ use mathlib.Core.List.{List, [], _∷_, _++_}
 use Prim.Native.Nat.{ℕ, zero, suc, pred, _+_, _-_, _*_, _^_, _/_, _≤_, _<_}
 use native.Mathlib.Nat.{pow-zero, pow-suc, mul-comm, suc-mul, mul-le-mul-right, mul-div-cancel}
 use native.Mathlib.Numerals.{add-one}
-use native.Mathlib.Decide.{decLt}
+use native.Mathlib.Decide.{decLt, ℕ-discrete}
 use native.Mathlib.Omega.{arith}
 use lib.ListN.{length, getD, set, take, drop, length-set, length-drop, List·getD-append}
 use lib.Seq.{getD-take, getD-append-add, length-take-le, getD-set-same, getD-set-other}
@@ -17,13 +17,14 @@ use Rattle.mealy.proofs.Indices.{length-window, window-digits}
 use Rattle.mealy.specs.Machine.{Machine}
 use Rattle.mealy.specs.Word.{Holds}
 use Rattle.mealy.specs.Answer.{byteOf}
-use Rattle.mealy.proofs.Words.{holds-map, holds-one}
+use Rattle.mealy.proofs.Words.{holds-map, holds-none, holds-one}
 use Rattle.mealy.proofs.Members.{holds-member}
 use Rattle.coder.specs.Table.{machineOfCoder, Sound}
 use Rattle.coder.specs.declared.inner.tables.Coder.{Coder}
 use Rattle.coder.proofs.Tables.{next-high}
 use Rattle.coder.proofs.Fill.{getD-table}
 use Rattle.setting.specs.Words.{settingOfCoder}
+use Rattle.setting.proofs.Same.{coder-bounded}
 use Rattle.fitting.specs.Answer.{meaning, ByteOf, answerOf}
 use Rattle.fitting.proofs.Answers.{byte-right}
 use Rattle.filling.specs.Runs.{Sets, SetAfter, From, EachWord, SetsIn, LetterAfter}
@@ -275,9 +276,15 @@ module _ {next start entries : List ℕ} {outputs : ℕ} {v : List ℕ} {left pr
 module _ (c : Coder) (sound : Sound c) {starts : ℕ} (h : Holds (settingOfCoder c .Start) starts) where
   pub start-holds : (s : ℕ) → s < c .states → Holds (startingSets (settingOfCoder c) s) (getD (startSets starts) s 0)
   start-holds s l =
-      let e : startSet starts s ≡ 1 = h .has s l in
-      rw (getD-table 16 (startSet starts) s (let n = sound .states-high in omega arith), e)
-      (holds-one 0 (lit< tt) (l, refl) (λ y q. q .1))
+      let n = sound .states-high in
+      let low : s < 16 = omega arith in
+      rw (getD-table 16 (startSet starts) s low)
+      (elim (ℕ-discrete (startSet starts s) 1) [
+        | yes e ↦ rw e (holds-one 0 (lit< tt) (h .only s low e, refl) (λ y q. q .1))
+        | no e ↦
+            let z : startSet starts s ≡ 0 = omega arith in
+            rw z (holds-none (λ y q. e (h .has s (q .0))))
+      ])
 
 start-words : (starts : ℕ) → EachWord (startSets starts)
 start-words starts s l = rw (getD-table 16 (startSet starts) s l) (omega arith)
@@ -319,4 +326,4 @@ table-filled {c} {o} {n} {b} {starts} {v} {table} sound e h l f =
     to s x q = holds-member (start-holds c sound h s (q .0)) x (rw e at (q .1))
 
     from : (s x : ℕ) → startingSets (settingOfCoder c) s x → SetsIn c v s x
-    from s x q = (q .0, rw e (start-holds c sound h s (q .0) .has x q))
+    from s x q = let l = coder-bounded sound s (q .0) in (l, rw e (start-holds c sound h s l .has x q))

@@ -13,6 +13,7 @@ use Rattle.mealy.proofs.OneMore.{next-below, holds-more}
 use Rattle.coder.specs.Table.{machineOfCoder, Sound}
 use Rattle.coder.specs.declared.inner.tables.Coder.{Coder}
 use Rattle.setting.specs.Words.{settingOfCoder}
+use Rattle.setting.proofs.Same.{coder-bounded}
 use Rattle.fitting.specs.Answer.{Right}
 use Rattle.fitting.proofs.Answers.{holds-right}
 use Rattle.filling.specs.Runs.{Sets, SetAfter, From}
@@ -59,4 +60,4 @@ module _ (c : Coder) (sound : Sound c) where
       let S = settingOfCoder c in
       holds-right
       (holds-map (λ x. fits-from S w b x l) (from-fits S w b)
-      (pass-holds w (startSets starts) (suc b) (startingSets S) (λ s x q. q .0) (start-holds c sound h) (omega arith)))
+      (pass-holds w (startSets starts) (suc b) (startingSets S) (λ s x q. coder-bounded sound s (q .0)) (start-holds c sound h) (omega arith)))

@@ -19,10 +19,11 @@ use Rattle.coder.specs.declared.inner.tables.Coder.{Coder}
 use Rattle.coder.proofs.Tables.{table-at, table-place, next-high, output-high}
 use Rattle.chains.specs.Parts.{placePart, placeParts}
 use Rattle.setting.specs.Words.{settingOfCoder}
+use Rattle.setting.proofs.Same.{coder-bounded}
 use Rattle.fitting.specs.Answer.{Right, answerOf}
 use Rattle.fitting.specs.declared.Answer.{Answer}
 use Rattle.fitting.proofs.Answers.{holds-right}
-use Rattle.fitting.specs.Tables.{GivenBelow, EntriesAsked, Leads, OnLetter, FittingIn, TablesAsked, TablesOf}
+use Rattle.fitting.specs.Tables.{GivenBelow, EntriesAsked, ByOutput, Leads, OnLetter, FittingIn, TablesAsked, TablesOf}
 
 -- what making the tables asks, of a sound coder
 part-low : (letters : Bool) (p : ℕ) → p < 256 → placePart letters p < 16
@@ -90,43 +91,57 @@ module _ (c : Coder) (sound : Sound c) where
   part-at : (letters : Bool) (p : ℕ) → p < 16 * c .states → getD (placeParts letters) p 0 ≡ placePart letters p
   part-at letters p l = let h = sound .states-high in getD-table 256 (placePart letters) p (omega arith)
 
-module _ {c : Coder} {next successors predecessors letters : List ℕ} {starts : ℕ}
-    (k : TablesOf c next successors predecessors letters starts) where
-  abbrev N : Machine
-  N = machineOfCoder c
-
-  leads-successor : (o s t : ℕ) → o < 64 → Leads successors o s t → Successor N o s t
-  leads-successor o s t l h =
-      let g = holds-member (k .sets .successors-are .holds o s l (h .0)) t (h .1) in
-      let e : g .p / 16 ≡ s = sym (part-at c (k .sound) false (g .p) (g .below)) ∙ g .key in
-      record { x = g .p % 16; entry = rw (g .gives .1, e) at (place-entry c (k .sound) (placeParts false) (c .next) g) }
-
-  module _ (o s t : ℕ) (l : o < 64) (e : Successor N o s t) where
+  -- an entry of state s, in the tables
+  module _ {o s t : ℕ} (e : Successor M o s t) where
     abbrev x : ℕ
     x = e .x
 
     low : s < 16
-    low = let m = e .entry .state in let n = k .sound .states-high in omega arith
+    low = let m = e .entry .state in let n = sound .states-high in omega arith
 
     small : x < 16
-    small = let j = e .entry .letter in let i = k .sound .inputs-high in omega arith
+    small = let j = e .entry .letter in let i = sound .inputs-high in omega arith
 
-    at : getD (c .next) (16 * s + x) 0 ≡ t
-    at = table-place (c .next) s x small ∙ e .entry .to
+    to-at : getD (c .next) (16 * s + x) 0 ≡ t
+    to-at = table-place (c .next) s x small ∙ e .entry .to
 
     in-table : 16 * s + x < 16 * c .states
     in-table = let m = e .entry .state in let y = small in omega arith
 
     state-at : getD (placeParts false) (16 * s + x) 0 ≡ s
-    state-at = part-at c (k .sound) false (16 * s + x) in-table ∙ (let y = small in omega arith)
+    state-at = part-at false (16 * s + x) in-table ∙ (let y = small in omega arith)
 
-    successor-leads : Leads successors o s t
-    successor-leads = (low, k .sets .successors-are .holds o s l low .has t (entry-place c (k .sound) (placeParts false) (c .next) (e .entry) state-at at))
+  -- the table of successors
+  module _ {successors : List ℕ} (are : ByOutput (placeParts false) (c .next) (c .output) (c .states) (c .inputs) successors) where
+    pub leads-successor : (o s t : ℕ) → o < 64 → Leads successors o s t → Successor M o s t
+    leads-successor o s t l h =
+        let g = holds-member (are .holds o s l (h .0)) t (h .1) in
+        let e : g .p / 16 ≡ s = sym (part-at false (g .p) (g .below)) ∙ g .key in
+        record { x = g .p % 16; entry = rw (g .gives .1, e) at (place-entry (placeParts false) (c .next) g) }
 
-    successor-back : Leads predecessors o t s
-    successor-back =
-        let m : t < 16 = rw at at (next-low (k .sound) (16 * s + x)) in
-        (m, k .sets .predecessors-are .holds o t l m .has s (entry-place c (k .sound) (c .next) (placeParts false) (e .entry) at state-at))
+    pub successor-leads : (o s t : ℕ) → o < 64 → Successor M o s t → Leads successors o s t
+    successor-leads o s t l e =
+        (low e, are .holds o s l (low e) .has t (entry-place (placeParts false) (c .next) (e .entry) (state-at e) (to-at e)))
+
+module _ {c : Coder} {next successors predecessors letters : List ℕ} {starts : ℕ}
+    (k : TablesOf c next successors predecessors letters starts) where
+  abbrev N : Machine
+  N = machineOfCoder c
+
+  to-successor : (o s t : ℕ) → o < 64 → Leads successors o s t → Successor N o s t
+  to-successor = leads-successor c (k .sound) (k .sets .successors-are)
+
+  from-successor : (o s t : ℕ) → o < 64 → Successor N o s t → Leads successors o s t
+  from-successor = successor-leads c (k .sound) (k .sets .successors-are)
+
+  successor-back : (o s t : ℕ) → o < 64 → Successor N o s t → Leads predecessors o t s
+  successor-back o s t l e =
+      let at = to-at c (k .sound) e in
+      let m : t < 16 = rw at at (next-low (k .sound) (16 * s + e .x)) in (
+        m,
+        k .sets .predecessors-are .holds o t l m .has s
+            (entry-place c (k .sound) (c .next) (placeParts false) (e .entry) at (state-at c (k .sound) e)),
+      )
 
   back-successor : (o s t : ℕ) → o < 64 → Leads predecessors o t s → Successor N o s t
   back-successor o s t l h =
@@ -141,8 +156,8 @@ module _ {c : Coder} {next successors predecessors letters : List ℕ} {starts :
         successors-words = λ o s l m. k .sets .successors-are .holds o s l m .bound;
         predecessors-words = λ o s l m. k .sets .predecessors-are .holds o s l m .bound;
         letters-words = λ o s l m. k .sets .letters-are .holds o s l m .bound;
-        turned = λ o s t l h. successor-back o s t l (leads-successor o s t l h);
-        turned′ = λ o s t l h. successor-leads o s t l (back-successor o s t l h);
+        turned = λ o s t l h. successor-back o s t l (to-successor o s t l h);
+        turned′ = λ o s t l h. from-successor o s t l (back-successor o s t l h);
       }
 
   on-entry : (x o s t : ℕ) → o < 64 → OnLetter next letters x o s t → Entry N x o s t
@@ -180,12 +195,12 @@ module _ {c : Coder} {next successors predecessors letters : List ℕ} {starts :
       holds-map
       (λ x f.
       fitting-fits S w b x (S .Start)
-      (fitting-within (Leads successors) (Successor N) (λ o. o < 64) leads-successor (OnLetter next letters) (Entry N) on-entry w
-      (all (Leads successors) (Successor N) leads-successor w l) b x (holds-member (k .starts-are)) f))
+      (fitting-within (Leads successors) (Successor N) (λ o. o < 64) to-successor (OnLetter next letters) (Entry N) on-entry w
+      (all (Leads successors) (Successor N) to-successor w l) b x (holds-member (k .starts-are)) f))
       (λ x f.
-      fitting-within (Successor N) (Leads successors) (λ o. o < 64) successor-leads (Entry N) (OnLetter next letters) entry-on w
-      (all (Successor N) (Leads successors) successor-leads w l) b x (k .starts-are .has)
-      (fits-fitting S (k .sound .next-state) (λ s p. p) w b x f))
+      fitting-within (Successor N) (Leads successors) (λ o. o < 64) from-successor (Entry N) (OnLetter next letters) entry-on w
+      (all (Successor N) (Leads successors) from-successor w l) b x (k .starts-are .has)
+      (fits-fitting S (k .sound .next-state) (coder-bounded (k .sound)) w b x f))
     where
       all :
           (R R′ : Transitions) (f : (o s t : ℕ) → o < 64 → R o s t → R′ o s t) (w : List ℕ) → Letters 64 w → All R R′ (λ o. o < 64) f w

@@ -17,6 +17,7 @@ pub mod PairDecisions
 pub mod LoopedPairs
 pub mod Answers
 pub mod Indices
+pub mod ReachableStates
 pub mod Plain
 pub mod ComesBack
 pub mod Places

@@ -1,16 +1,19 @@
--- Settings that say the same agree on windows, looped pairs and answers.
-use mathlib.Core.Path.{_≡_, sym, subst}
-use mathlib.Core.List.{List}
-use Prim.Native.Nat.{ℕ, zero, suc, _+_, _<_}
+-- Settings that say the same agree on windows, looped pairs and answers; spare states, and coders without them.
+use mathlib.Core.Path.{_≡_, refl, sym, ap, ap₂, _∙_}
+use mathlib.Core.Logic.{_≢_}
+use mathlib.Core.List.{List, [], _∷_}
+use Prim.Native.Nat.{ℕ, zero, suc, _+_, _≤_, _<_}
 use native.Mathlib.Omega.{arith}
-use Rattle.mealy.specs.Machine.{Machine, Letters}
-use Rattle.mealy.specs.Setting.{Setting, Same, Closed}
-use Rattle.mealy.specs.Window.{Works}
+use Rattle.mealy.specs.Machine.{Machine, outs, end, Letters, Total}
+use Rattle.mealy.specs.Reachable.{Reachable, Padded}
+use Rattle.mealy.specs.Setting.{Setting, Same, fromReachable, anyState}
+use Rattle.mealy.specs.Window.{EqualOutputs, Works}
 use Rattle.mealy.specs.Order.{Relation, Least}
 use Rattle.mealy.specs.Answer.{Fits, Answer, letter, none, several, Answers}
-use Rattle.mealy.proofs.Letters.{letter-at}
 use Rattle.mealy.specs.First.{First}
-use Rattle.mealy.specs.LoopedPair.{LoopedPair, Run, first, second, letterAt, lettersFrom, mark, letters, Valid}
+use Rattle.mealy.specs.LoopedPair.{LoopedPair, Run, first, second, letterAt, lettersFrom, mark, unlooped, letters, startOf, runInputs, Valid}
+use Rattle.mealy.proofs.Letters.{letter-at}
+use Rattle.mealy.proofs.ReachableStates.{reachable-zero, reachable-closed, reachable-bounded}
 
 -- the letters of a pair are input letters
 pub pair-letter-below :
@@ -20,84 +23,101 @@ pair-letter-below n p r zero place k at l h e = absurd (omega arith)
 pair-letter-below n p r (suc m) place zero at l h e = let q : place ≡ at = omega arith in rw q at (l .0)
 pair-letter-below n p r (suc m) place (suc k) at l h e = pair-letter-below n p r m (suc place) k at (l .1) (omega arith) (omega arith)
 
--- ---- over one machine
+-- the first m letters of a run are letters where more are
+letters-fewer :
+    (n : ℕ) (p : LoopedPair) (r : Run) (m k place : ℕ) → m ≤ k → Letters n (lettersFrom p r place k) → Letters n (lettersFrom p r place m)
+letters-fewer n p r zero k place l h = tt
+letters-fewer n p r (suc m) zero place l h = absurd (omega arith)
+letters-fewer n p r (suc m) (suc k) place l h = (h .0, letters-fewer n p r m k (suc place) (omega arith) (h .1))
 
-abbrev over : Machine → (ℕ → Type 0) → (ℕ → ℕ → Type 0) → Setting
-over M A C = record { M = M; Start = A; Conflict = C }
+-- ---- runs
 
-module _ (M : Machine) {A B : ℕ → Type 0} {C D : ℕ → ℕ → Type 0} where
-  works-over :
-      ((s : ℕ) → B s → A s) → ((i j : ℕ) → i < M .inputs → j < M .inputs → D i j → C i j) → (b a : ℕ) →
-      Works (over M A C) b a → Works (over M B D) b a
-  works-over to con b a f s t xs ys p q w c =
-      f s t xs ys (to s p) (to t q) w
-      (con _ _ (letter-at (M .inputs) xs (w .letters₁) b (omega arith)) (letter-at (M .inputs) ys (w .letters₂) b (omega arith)) c)
+module _ {S T : Setting} (e : Same S T) where
+  pub letters-same : (xs : List ℕ) → Letters (S .M .inputs) xs → Letters (T .M .inputs) xs
+  letters-same xs l = rw (e .inputs) at l
 
-  valid-over :
-      ((s : ℕ) → A s → B s) → ((i j : ℕ) → i < M .inputs → j < M .inputs → C i j → D i j) → (p : LoopedPair) →
-      Valid (over M A C) p → Valid (over M B D) p
-  valid-over to con p v =
+  pub outs-same : (s : ℕ) (xs : List ℕ) → S .Start s → Letters (S .M .inputs) xs → outs (S .M) s xs ≡ outs (T .M) s xs
+  outs-same s [] p l = refl
+  outs-same s (x ∷ xs) p l =
+      ap₂ _∷_ (e .out s x p (l .0))
+      (outs-same (S .M .next s x) xs (e .closed s x p (l .0)) (l .1) ∙ ap (λ t. outs (T .M) t xs) (e .next s x p (l .0)))
+
+  pub end-same : (s : ℕ) (xs : List ℕ) → S .Start s → Letters (S .M .inputs) xs → end (S .M) s xs ≡ end (T .M) s xs
+  end-same s [] p l = refl
+  end-same s (x ∷ xs) p l =
+      end-same (S .M .next s x) xs (e .closed s x p (l .0)) (l .1) ∙ ap (λ t. end (T .M) t xs) (e .next s x p (l .0))
+
+  equal-same :
+      {n s t : ℕ} {xs ys : List ℕ} → S .Start s → S .Start t → EqualOutputs (S .M) n s t xs ys → EqualOutputs (T .M) n s t xs ys
+  equal-same {n} {s} {t} {xs} {ys} p q w =
       record {
-        held = v .held;
-        start = λ r. to _ (v .start r);
-        below = v .below;
-        back-letter = v .back-letter;
-        forward-letter = v .forward-letter;
-        outputs = v .outputs;
-        conflict =
-            con _ _ (pair-letter-below (M .inputs) p first (letters p) 0 (mark p) (mark p) (v .below first) (omega arith) (omega arith))
-            (pair-letter-below (M .inputs) p second (letters p) 0 (mark p) (mark p) (v .below second) (omega arith) (omega arith))
-            (v .conflict);
-        back-closed = v .back-closed;
-        forward-closed = v .forward-closed;
+        letters₁ = letters-same xs (w .letters₁);
+        letters₂ = letters-same ys (w .letters₂);
+        length₁ = w .length₁;
+        length₂ = w .length₂;
+        outputs = sym (outs-same s xs p (w .letters₁)) ∙ w .outputs ∙ outs-same t ys q (w .letters₂);
       }
 
-  fits-over : ((s : ℕ) → A s → B s) → (w : List ℕ) (b x : ℕ) → Fits (over M A C) w b x → Fits (over M B D) w b x
-  fits-over to w b x f =
+  pub same-sym : Same T S
+  same-sym =
+      let next : (s i : ℕ) → T .Start s → i < T .M .inputs → T .M .next s i ≡ S .M .next s i =
+      λ s i p l. sym (e .next s i (e .start′ s p) (rw (e .inputs) l)) in
+      record {
+        closed = λ s i p l. rw (next s i p l) (e .start _ (e .closed s i (e .start′ s p) (rw (e .inputs) l)));
+        inputs = sym (e .inputs);
+        start = e .start′;
+        start′ = e .start;
+        next = next;
+        out = λ s i p l. sym (e .out s i (e .start′ s p) (rw (e .inputs) l));
+        conflict = λ i j l m. e .conflict′ i j (rw (e .inputs) l) (rw (e .inputs) m);
+        conflict′ = λ i j l m. e .conflict i j (rw (e .inputs) l) (rw (e .inputs) m);
+      }
+
+-- ---- windows, looped pairs, letters that fit
+
+module _ {S T : Setting} (e : Same S T) where
+  pub works-same : (b a : ℕ) → Works S b a → Works T b a
+  works-same b a f s t xs ys p q w c =
+      let back = equal-same (same-sym e) p q w in
+      f s t xs ys (e .start′ s p) (e .start′ t q) back
+      (e .conflict′ _ _ (letter-at (S .M .inputs) xs (back .letters₁) b (omega (arith, back .length₁)))
+      (letter-at (S .M .inputs) ys (back .letters₂) b (omega (arith, back .length₂))) c)
+
+  pub valid-same : (p : LoopedPair) → Valid S p → Valid T p
+  valid-same p v =
+      let n = S .M .inputs in
+      record {
+        held = v .held;
+        start = λ r. e .start _ (v .start r);
+        below = λ r. letters-same e (runInputs p r) (v .below r);
+        back-letter = v .back-letter;
+        forward-letter = v .forward-letter;
+        outputs =
+            sym (outs-same e (p .s) (runInputs p first) (v .start first) (v .below first)) ∙ v .outputs ∙
+            outs-same e (p .t) (runInputs p second) (v .start second) (v .below second);
+        conflict =
+            e .conflict _ _ (pair-letter-below n p first (letters p) 0 (mark p) (mark p) (v .below first) (omega arith) (omega arith))
+            (pair-letter-below n p second (letters p) 0 (mark p) (mark p) (v .below second) (omega arith) (omega arith)) (v .conflict);
+        back-closed = λ r. sym (part r (p .back-loop) (omega arith)) ∙ v .back-closed r;
+        forward-closed = λ r. sym (part r (letters p) (omega arith)) ∙ v .forward-closed r ∙ part r (unlooped p) (omega arith);
+      }
+    where
+      part :
+          (r : Run) (m : ℕ) → m ≤ letters p →
+          end (S .M) (startOf p r) (lettersFrom p r 0 m) ≡ end (T .M) (startOf p r) (lettersFrom p r 0 m)
+      part r m l = end-same e (startOf p r) (lettersFrom p r 0 m) (v .start r) (letters-fewer (S .M .inputs) p r m (letters p) 0 l (v .below r))
+
+  pub fits-same : (w : List ℕ) (b x : ℕ) → Fits S w b x → Fits T w b x
+  fits-same w b x f =
       record {
         s = f .s;
         xs = f .xs;
-        start = to _ (f .start);
-        letters = f .letters;
-        outputs = f .outputs;
+        start = e .start _ (f .start);
+        letters = letters-same e (f .xs) (f .letters);
+        outputs = sym (outs-same e (f .s) (f .xs) (f .start) (f .letters)) ∙ f .outputs;
         inside = f .inside;
         letter = f .letter;
       }
-
--- ---- over machines that are the same
-
-pub same-sym : {S T : Setting} → Same S T → Same T S
-same-sym {S} {T} e =
-    record {
-      machine = sym (e .machine);
-      start = e .start′;
-      start′ = e .start;
-      conflict = λ i j l m. e .conflict′ i j (rw (e .machine) l) (rw (e .machine) m);
-      conflict′ = λ i j l m. e .conflict i j (rw (e .machine) l) (rw (e .machine) m);
-    }
-
-module _ {S T : Setting} (e : Same S T) where
-  -- what holds in S, in the setting of T's machine with S's start states and conflicts
-  moved : (Q : Setting → Type 0) → Q S → Q (over (T .M) (S .Start) (S .Conflict))
-  moved Q h = subst (λ (M : Machine). Q (over M (S .Start) (S .Conflict))) (e .machine) h
-
-  to : (i j : ℕ) → i < T .M .inputs → j < T .M .inputs → S .Conflict i j → T .Conflict i j
-  to i j l m = e .conflict i j (rw (e .machine) l) (rw (e .machine) m)
-
-  from : (i j : ℕ) → i < T .M .inputs → j < T .M .inputs → T .Conflict i j → S .Conflict i j
-  from i j l m = e .conflict′ i j (rw (e .machine) l) (rw (e .machine) m)
-
-  pub works-same : (b a : ℕ) → Works S b a → Works T b a
-  works-same b a f = works-over (T .M) (e .start′) from b a (moved (λ Z. Works Z b a) f)
-
-  pub valid-same : (p : LoopedPair) → Valid S p → Valid T p
-  valid-same p v = valid-over (T .M) (e .start) to p (moved (λ Z. Valid Z p) v)
-
-  pub fits-same : (w : List ℕ) (b x : ℕ) → Fits S w b x → Fits T w b x
-  fits-same w b x f = fits-over (T .M) {C = S .Conflict} {D = T .Conflict} (e .start) w b x (moved (λ Z. Fits Z w b x) f)
-
-  pub closed-same : Closed S → Closed T
-  closed-same h s i p l = e .start _ (moved Closed h s i (e .start′ s p) l)
 
 module _ {S T : Setting} (e : Same S T) where
   pub least-same : (R : Relation) (b a : ℕ) → Least R S b a → Least R T b a
@@ -123,3 +143,56 @@ module _ {S T : Setting} (e : Same S T) where
         fits₂ = fits-same e w b (h .y) (h .fits₂);
         differ = h .differ;
       }
+
+-- ---- spare states
+
+-- other spare states, or other entries of these, leave the setting as it is
+module _ {M M′ : Machine} (h : Padded M M′) where
+  -- from the states that M reaches M′ runs as M
+  as-padded : Same (fromReachable M) (record { M = M′; Start = Reachable M; Conflict = λ i j. i ≢ j })
+  as-padded =
+      record {
+        closed = reachable-closed M;
+        inputs = h .inputs;
+        start = λ s r. r;
+        start′ = λ s r. r;
+        next = h .next;
+        out = h .out;
+        conflict = λ i j l m d. d;
+        conflict′ = λ i j l m d. d;
+      }
+
+  pub same-padded : Same (fromReachable M) (fromReachable M′)
+  same-padded =
+      record {
+        closed = reachable-closed M;
+        inputs = h .inputs;
+        start = λ s r.
+            record {
+              xs = r .xs;
+              letters = letters-same as-padded (r .xs) (r .letters);
+              ends = sym (end-same as-padded 0 (r .xs) (reachable-zero M) (r .letters)) ∙ r .ends;
+            };
+        start′ = λ s r.
+            let l = letters-same (same-sym as-padded) (r .xs) (r .letters) in
+            record { xs = r .xs; letters = l; ends = end-same as-padded 0 (r .xs) (reachable-zero M) l ∙ r .ends };
+        next = h .next;
+        out = h .out;
+        conflict = λ i j l m d. d;
+        conflict′ = λ i j l m d. d;
+      }
+
+-- where every state is reachable, a run starts in any state, as in document 01
+pub all-reachable :
+    (M : Machine) → Total M → 0 < M .states → ((s : ℕ) → s < M .states → Reachable M s) → Same (fromReachable M) (anyState M)
+all-reachable M total some all =
+    record {
+      closed = reachable-closed M;
+      inputs = refl;
+      start = reachable-bounded M total some;
+      start′ = all;
+      next = λ s i r l. refl;
+      out = λ s i r l. refl;
+      conflict = λ i j l m d. d;
+      conflict′ = λ i j l m d. d;
+    }

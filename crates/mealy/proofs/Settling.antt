@@ -8,32 +8,8 @@ use Rattle.mealy.specs.Window.{Works}
 use Rattle.mealy.specs.Product.{Direction, back, forward, Settled, pairs}
 use Rattle.mealy.proofs.Levels.{level-fall, level-swap, settled-after}
 use Rattle.mealy.proofs.Windows.{unambiguous→works, no-decoder}
-use Rattle.mealy.proofs.Sums.{stops-falling}
+use Rattle.mealy.proofs.Sums.{bit, bit-small, bit-le, bit-get, stops-falling}
 use Rattle.mealy.proofs.Decisions.{dec-level, level-bounded, dec-ambiguous}
-
--- ---- a decision as a number
-
-bit : {A : Type 0} → Dec A → ℕ
-bit (yes a) = 1
-bit (no a) = 0
-
-bit-small : {A : Type 0} (d : Dec A) → bit d ≤ 1
-unfolding bit
-bit-small (yes a) = omega arith
-bit-small (no a) = omega arith
-
-bit-le : {A B : Type 0} (d : Dec A) (e : Dec B) → (A → B) → bit d ≤ bit e
-unfolding bit
-bit-le (yes a) (yes b) f = omega arith
-bit-le (yes a) (no b) f = absurd (b (f a))
-bit-le (no a) (yes b) f = omega arith
-bit-le (no a) (no b) f = omega arith
-
-bit-get : {A B : Type 0} (d : Dec A) (e : Dec B) → bit d ≤ bit e → A → B
-unfolding bit
-bit-get (yes a) (yes b) l x = b
-bit-get (yes a) (no b) l x = absurd (omega arith)
-bit-get (no a) e l x = absurd (a x)
 
 module _ (S : Setting) (decideStart : (s : ℕ) → Dec (S .Start s)) (bounded : Bounded S) where
   open Setting S using (M, Conflict)

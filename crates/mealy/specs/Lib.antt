@@ -1,6 +1,7 @@
--- What the contracts cite: machines, runs, windows, the decoder's answer, the index of a window, the product machine, looped pairs, walks.
+-- What the contracts cite: machines, runs, reachable states, windows, the decoder's answer, the index of a window, the product machine, looped pairs, walks.
 pub mod Machine
 pub mod Word
+pub mod Reachable
 pub mod Setting
 pub mod Window
 pub mod Order

@@ -6,6 +6,7 @@ use mathlib.Core.List.{List}
 use lib.ListN.{getD}
 use Rattle.mealy.specs.Machine.{Machine}
 use Rattle.mealy.specs.Word.{Has}
+use Rattle.mealy.specs.Reachable.{Reachable}
 
 -- It holds no proof, so that a contract can cite it.
 pub record Setting : Type 1 where
@@ -20,8 +21,13 @@ Closed S = (s i : ℕ) → S .Start s → i < S .M .inputs → S .Start (S .M .n
 abbrev pub Bounded : Setting → Type 0
 Bounded S = (s : ℕ) → S .Start s → s < S .M .states
 
--- The setting of document 01: a run may start in any state ("Coders and runs", fourth sentence), and different input letters
--- are to be told apart (the sentence that defines "works").
+-- The setting of a coder: a run may start in any reachable state (document 02, 5/13, second sentence), and different input letters are
+-- to be told apart (the sentence of document 01 that defines "works").
+abbrev pub fromReachable : Machine → Setting
+fromReachable M = record { M = M; Start = Reachable M; Conflict = λ i j. i ≢ j }
+
+-- The setting of document 01 alone ("Coders and runs", fourth sentence): a run may start in any state. Where every state is reachable
+-- it says the same (`all-reachable` of proofs/SameSettings.antt).
 abbrev pub anyState : Machine → Setting
 anyState M = record { M = M; Start = λ s. s < M .states; Conflict = λ i j. i ≢ j }
 
@@ -31,10 +37,14 @@ abbrev pub worded : Machine → ℕ → List ℕ → Setting
 worded M starts conflicts =
     record { M = M; Start = λ s. (s < M .states) × Has starts s; Conflict = λ i j. Has (getD conflicts i 0) j }
 
--- Two settings say the same: one machine, the same start states, and the same conflicts of its input letters.
+-- Two settings say the same: they have the same start states, which no entry leaves, the same entries there, and the same conflicts
+-- of their input letters.
 pub record Same (S T : Setting) : Type 0 where
-  pub machine : S .M ≡ T .M
+  pub closed : Closed S
+  pub inputs : S .M .inputs ≡ T .M .inputs
   pub start : (s : ℕ) → S .Start s → T .Start s
   pub start′ : (s : ℕ) → T .Start s → S .Start s
+  pub next : (s i : ℕ) → S .Start s → i < S .M .inputs → S .M .next s i ≡ T .M .next s i
+  pub out : (s i : ℕ) → S .Start s → i < S .M .inputs → S .M .out s i ≡ T .M .out s i
   pub conflict : (i j : ℕ) → i < S .M .inputs → j < S .M .inputs → S .Conflict i j → T .Conflict i j
   pub conflict′ : (i j : ℕ) → i < S .M .inputs → j < S .M .inputs → T .Conflict i j → S .Conflict i j

@@ -1,9 +1,10 @@
 -- Windows that work.
-use Prim.Native.Nat.{ℕ, _+_, _<_}
+use Prim.Native.Nat.{ℕ, _+_}
 use mathlib.Core.Path.{_≡_}
 use mathlib.Core.List.{List}
 use lib.ListN.{length, getD}
 use Rattle.mealy.specs.Machine.{Machine, outs, Letters}
+use Rattle.mealy.specs.Reachable.{Reachable}
 use Rattle.mealy.specs.Setting.{Setting}
 
 -- Two runs of n letters, from s on xs and from t on ys, with equal outputs at every place.
@@ -21,9 +22,9 @@ Works S b a =
     (s t : ℕ) (xs ys : List ℕ) → S .Start s → S .Start t → EqualOutputs (S .M) (b + 1 + a) s t xs ys →
     S .Conflict (getD xs b 0) (getD ys b 0) → ⊥
 
--- The same for document 01's setting, said with no setting: where the outputs are equal, so is the letter at place b.
--- `works↔same-letter` of proofs/Plain.antt shows that the two agree.
+-- The same for a coder, said with no setting (document 02, 5/13): where two runs from reachable states have equal outputs, they have
+-- the same letter at place b. `works↔same-letter` of proofs/Plain.antt shows that the two agree.
 abbrev pub SameLetter : Machine → ℕ → ℕ → Type 0
 SameLetter M b a =
-    (s t : ℕ) (xs ys : List ℕ) → s < M .states → t < M .states → Letters (M .inputs) xs → Letters (M .inputs) ys →
+    (s t : ℕ) (xs ys : List ℕ) → Reachable M s → Reachable M t → Letters (M .inputs) xs → Letters (M .inputs) ys →
     length xs ≡ b + 1 + a → length ys ≡ b + 1 + a → outs M s xs ≡ outs M t ys → getD xs b 0 ≡ getD ys b 0

@@ -66,7 +66,7 @@ pub fn checked(file: &[u8], order: Order, letters: &mut [u8]) -> Verdict
     ensures { λ r. ⌜ Says (relationOf order) (settingOf (now (file .entry))) r (now (letters .entry)) (now (letters .exit)) ⌝ }
 {
     let c = Coder::from_checked(file);
-    let starts = setting::inner::start_states(c);
+    let starts = starts::inner::start_states(c);
     let conflicts = setting::inner::different_letters();
     verdict(c, starts, &conflicts, order, letters)
 }

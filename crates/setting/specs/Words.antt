@@ -4,14 +4,14 @@ use mathlib.Core.List.{List}
 use lib.ListN.{length, getD}
 use mathlib.Core.Path.{_≡_}
 use Rattle.mealy.specs.Word.{Has, Holds}
-use Rattle.mealy.specs.Setting.{Setting, anyState}
+use Rattle.mealy.specs.Setting.{Setting, fromReachable}
 use Rattle.coder.specs.Limits.{maxInputs}
 use Rattle.coder.specs.Table.{machineOfCoder}
 use Rattle.coder.specs.declared.inner.tables.Coder.{Coder}
 
 -- The setting of a coder's tables. For an accepted file it is the file's (`same-setting` of proofs/Same.antt).
 abbrev pub settingOfCoder : Coder → Setting
-settingOfCoder c = anyState (machineOfCoder c)
+settingOfCoder c = fromReachable (machineOfCoder c)
 
 -- s is a start state: one of the n states, and in the word
 abbrev pub StartIn : ℕ → ℕ → ℕ → Type 0

@@ -1,11 +1,10 @@
-// No public calls: the states in which a run may start, and the letters that a window has to tell apart. A set is a word of 16 bits: bit
+// No public calls: whether states are start states, and the letters that a window has to tell apart. A set is a word of 16 bits: bit
 // x is set where x is in it.
 ghost use Prim.Native.Nat.{_<_};
 ghost use mathlib.Core.Logic.{_≢_};
-ghost use Rattle.mealy.specs.Word.{Has, Holds};
+ghost use Rattle.mealy.specs.Word.{Has};
 ghost use Rattle.coder.specs.Refusal.{Judges};
-ghost use Rattle.coder.specs.Table.{Sound};
-ghost use Rattle.setting.specs.Words.{settingOfCoder, StartIn, BothStart, ConflictsOf};
+ghost use Rattle.setting.specs.Words.{StartIn, BothStart, ConflictsOf};
 use coder::inner::tables::Coder;
 
 // Whether x is in a set.
@@ -14,15 +13,6 @@ pub fn has(set: u16, x: usize) -> bool
     ensures { λ r. ⌜ Judges (Has set x) r ⌝ }
 {
     (set >> x) % 2 == 1
-}
-
-// The start states of a coder: all its states.
-pub fn start_states(c: Coder) -> u16
-    requires { ⌜ Sound c ⌝ }
-    ensures { λ r. ⌜ Holds (settingOfCoder c .Start) r ⌝ }
-{
-    let states = c.states;
-    ((1u32 << states) - 1) as u16
 }
 
 // Whether s is a start state.

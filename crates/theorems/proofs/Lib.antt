@@ -9,5 +9,6 @@ pub mod TableLimit
 pub mod Tests
 pub mod Starred
 pub mod SearchChecked
+pub mod SpareStates
 pub mod TableShows
 pub mod Demands

@@ -13,11 +13,11 @@ use Rattle.mealy.specs.Product.{pairs}
 use Rattle.mealy.proofs.Answers.{length-outs}
 use Rattle.coder.specs.Limits.{maxSide}
 use Rattle.coder.specs.Refusal.{lettersBelow}
-use Rattle.coder.specs.File.{statesOf, inputsOf, outputsOf, machineOf}
+use Rattle.coder.specs.File.{statesOf, inputsOf, outputsOf, machineOf, settingOf}
 use Rattle.running.specs.Run.{runRefusal, runRefusalIn, RunPromise}
 use Rattle.running.specs.declared.RunResult.{RunResult}
 use Rattle.coder.proofs.Accepted.{accepted}
-use Rattle.coder.proofs.Tables.{output-below}
+use Rattle.coder.proofs.Tables.{output-below, start-below}
 use Rattle.product.proofs.Depths.{pairs-high}
 use Rattle.values.specs.declared.Window.{Window}
 use Rattle.values.specs.declared.CountResult.the-variants.{Done}
@@ -45,9 +45,16 @@ unfolding machineOf
 states-are f = refl
 
 module _ (f : List ℕ) (s : ℕ) (xs : List ℕ) (coded : Coded f s xs) where
+  -- the run starts where the runs of a window may start
+  pub is-start : settingOf f .Start s
+  is-start = coded .start
+
+  start-low : s < statesOf f
+  start-low = rw (states-are f) at (start-below f (accepted f (coded .file)) s is-start)
+
   pub not-refused : (before : List ℕ) → length xs ≤ length before → runRefusalIn f s xs before ≡ 0
   unfolding runRefusal
-  not-refused before l = rw (coded .file, lt-ltb s (statesOf f) (coded .start), le-leb (length xs) (length before) l, letters-test (inputsOf f) xs (coded .letters))
+  not-refused before l = rw (coded .file, lt-ltb s (statesOf f) start-low, le-leb (length xs) (length before) l, letters-test (inputsOf f) xs (coded .letters))
 
   sides-ok : (w : Window) → w .before ≤ maxSide → w .after ≤ maxSide → sidesRefusal f w ≡ 0
   unfolding sidesRefusal
@@ -84,5 +91,5 @@ round-trip f s xs coded before₁ r₁ after₁ l p o before₂ w after₂ q bef
       ran = rw (not-refused f s xs coded before₁ l) at (p .result);
       counted = (rw z at (d′ .result)) ∙ ap (λ n. Done (places n w)) long;
       back =
-          string-comes-back f w s xs before₃ r₃ after₃ (coded .file) (report .least .works) (coded .start) (coded .letters) z d′;
+          string-comes-back f w s xs before₃ r₃ after₃ (coded .file) (report .least .works) (is-start f s xs coded) (coded .letters) z d′;
     }

@@ -10,6 +10,8 @@ use borrow.Author.Tests.{lt-ltb, eq-eqb}
 use Rattle.mealy.specs.LoopedPair.{letters, first, second}
 use Rattle.mealy.proofs.PairBytes.{valid-letters, valid-cut}
 use Rattle.coder.specs.File.{statesOf, inputsOf, machineOf, settingOf}
+use Rattle.coder.proofs.Accepted.{accepted}
+use Rattle.coder.proofs.Tables.{start-below}
 use Rattle.values.specs.Pair.{pairOf}
 use Rattle.values.specs.declared.LoopedPair.{LoopedPair}
 use Rattle.values.specs.declared.Order.{Order}
@@ -27,6 +29,10 @@ pub yes-only : {r : CheckResult} (a : Bool) → r ≡ Checked a → (a ≡ false
 yes-only true e n = e
 yes-only false e n = absurd (n refl)
 
+pub no-only : {r : CheckResult} (a : Bool) → r ≡ Checked a → (a ≡ true → ⊥) → r ≡ Checked false
+no-only true e n = absurd (n refl)
+no-only false e n = e
+
 -- For a "no decoder", the check of that pair with the bytes of its letters, the first ones of the buffer, is not refused and says yes.
 pub search-checked :
     (o : Order) (f before : List ℕ) (p : LoopedPair) (after : List ℕ) (r : CheckResult) →
@@ -38,11 +44,13 @@ search-checked o f before p after r s c =
     let v = h .says .first .valid in
     let n = 2 * letters (pairOf p after) in
     let long = length-take-le n after (v .held) in
+    let file = search-accepted f (leb wanted (length before)) (h .accepted) .0 in
+    let low = start-below f (accepted f file) in
     let fine : checkRefusal f (pairOf p (take n after)) true ≡ 0 =
     rw (
-      search-accepted f (leb wanted (length before)) (h .accepted) .0,
-      lt-ltb (p .s) (statesOf f) (v .start first),
-      lt-ltb (p .t) (statesOf f) (v .start second),
+      file,
+      lt-ltb (p .s) (statesOf f) (low (p .s) (v .start first)),
+      lt-ltb (p .t) (statesOf f) (low (p .t) (v .start second)),
       eq-eqb (length (take n after)) n long,
       letters-test (inputsOf f) (take n after) (valid-letters (settingOf f) (pairOf p after) v),
     ) in

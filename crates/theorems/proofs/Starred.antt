@@ -1,23 +1,23 @@
 -- The starred cases hold: one computed test over the table, and a law from the test to each claim.
 use mathlib.Core.Path.{_≡_, refl, sym, ap, ap₂, _∙_}
-use mathlib.Core.Bool.{Bool, true, false, _&&_}
+use mathlib.Core.Bool.{Bool, true, false, not, _&&_}
 use mathlib.Core.List.{List, [], _∷_, _++_}
 use Prim.Native.Nat.{ℕ, _*_, _≤_, _<_}
 use native.Mathlib.Omega.{arith}
 use lib.ListN.{length, getD, take, drop, take-append-drop}
 use lib.Seq.{take-all}
 use lib.Dec.{leb, eqb}
-use borrow.Author.Tests.{eqb-true, le-leb}
+use borrow.Author.Tests.{eqb-true, le-leb, not-true}
 use lib.Count.{leadingZeros}
 use Rattle.mealy.specs.Machine.{outs, end}
 use Rattle.mealy.specs.Order.{Least as LeastOf}
-use Rattle.mealy.specs.LoopedPair.{letters}
+use Rattle.mealy.specs.LoopedPair.{letters, Valid}
 use Rattle.mealy.specs.First.{First}
 use Rattle.mealy.proofs.FirstPairs.{first-unique}
 use Rattle.mealy.specs.Answer.{byteOf}
 use Rattle.mealy.specs.Index.{windowAt}
 use Rattle.mealy.proofs.Indices.{length-window}
-use Rattle.mealy.proofs.Plain.{any-closed}
+use Rattle.mealy.proofs.ReachableStates.{reachable-closed}
 use Rattle.mealy.proofs.LoopedPairs.{excludes}
 use Rattle.mealy.proofs.LeastWindows.{least-unique}
 use Rattle.coder.specs.Refusal.{allBelow}
@@ -26,7 +26,7 @@ use Rattle.coder.specs.File.{within, inRange, entryInRange, entriesRefusal, fil
 use Rattle.coder.specs.Table.{table, coderOf, tableAt}
 use Rattle.coder.proofs.Refusals.{true-false, both-true, all-at}
 use Rattle.coder.proofs.Accepted.{accepted}
-use Rattle.coder.proofs.Tables.{total}
+use Rattle.coder.proofs.Tables.{total, some-state}
 use Rattle.chains.specs.Chain.{isEntry, hasKey, over}
 use Rattle.running.specs.Run.{runRefusal, runRefusalIn}
 use Rattle.running.specs.declared.RunResult as run-result
@@ -51,7 +51,8 @@ use Rattle.decoder.specs.Table.{EntryOf, tableRefusalIn}
 use Rattle.decoder.specs.declared.WindowResult.the-variants.{Answered}
 use Rattle.decoder.proofs.Accepting.{window-accepted}
 use Rattle.decoder.proofs.Writing.{written-bytes, written-unique}
-use Rattle.decoder.proofs.Decoding.{startsOf, file-right}
+use Rattle.decoder.proofs.Decoding.{startsOf, starts-hold, file-right}
+use Rattle.starts.proofs.Computed.{entriesWord, stepWord, foundWord}
 use Rattle.placing.specs.Placed.{withFront}
 use Rattle.writer.proofs.Writing.{write-given}
 use Rattle.search.specs.Search.{searchRefusal, wanted, Says, FoundVerdict, SearchPromise}
@@ -62,8 +63,8 @@ use Rattle.search.specs.declared.SearchResult.the-variants.{Found}
 use Rattle.checker.specs.Check.{checkRefusal, CheckedRight}
 use Rattle.theorems.specs.Starred as claimed
 use Rattle.theorems.specs.Starred.{Claim, Case, Holds, AllHold, AllCases, starred}
-use Rattle.theorems.proofs.SearchChecked.{yes-only}
-use Rattle.theorems.proofs.Tests.{sameList, same-list, allWords, agree, worksTest, laterOrFails, leastTest, least-test, closesTest, validTest, noEarlier, firstTest, first-size, first-test, differentTest, different-test}
+use Rattle.theorems.proofs.SearchChecked.{yes-only, no-only}
+use Rattle.theorems.proofs.Tests.{sameList, same-list, allStarts, allWords, agree, worksTest, laterOrFails, leastTest, least-test, closesTest, validTest, test-valid, noEarlier, firstTest, first-size, first-test, differentTest, different-test}
 
 -- ---- the test of a claim
 
@@ -96,8 +97,10 @@ entryByte f n b k = byteOf (meaning (decoded (coderOf f) (startsOf f) (windowAt 
 unfoldable test : List ℕ → Claim → Bool
 test f (claimed.counts n i o) = eqb (statesOf f) n && (eqb (inputsOf f) i && eqb (outputsOf f) o)
 test f (claimed.written n i o entries) = eqb (entriesRefusal n i o entries) 0 && sameList (fileOf n i o entries) f
-test f (claimed.window o b a) = leastTest (machineOf f) o b a
-test f (claimed.no-decoder s t bytes) = firstTest (machineOf f) s t bytes && eqb (checkRefusal f (claimed.pair s t bytes) true) 0
+test f (claimed.window o b a) = leastTest (machineOf f) (startsOf f) o b a
+test f (claimed.no-decoder s t bytes) = firstTest (machineOf f) (startsOf f) s t bytes && eqb (checkRefusal f (claimed.pair s t bytes) true) 0
+test f (claimed.not-valid s t bytes) =
+    not (validTest (machineOf f) (startsOf f) (claimed.pair s t bytes)) && eqb (checkRefusal f (claimed.pair s t bytes) true) 0
 test f claimed.different-outputs = differentTest (machineOf f)
 test f (claimed.answer b a w v) =
     eqb (windowRefusal f (window b a) w true) 0 && sameAnswer (decoded (coderOf f) (startsOf f) w b) v
@@ -148,7 +151,7 @@ module _ (f : List ℕ) (z : fileRefusal f ≡ 0) where
           (r ≡ Found (NoDecoder (loopedPair s t 1 0 0 1))) × (after ≡ withFront bytes before)
       go o r (Least w) d before after h =
           absurd
-          (excludes (settingOf f) (claimed.pair s t bytes) (first .valid) (any-closed (machineOf f) (total f (accepted f z))) (w .before) (w .after)
+          (excludes (settingOf f) (claimed.pair s t bytes) (first .valid) (reachable-closed (machineOf f)) (w .before) (w .after)
           (h .least .works))
       go o r (NoDecoder q) d before after h =
           let k = first-unique (settingOf f) (pairOf q after) (claimed.pair s t bytes) (h .first) first in
@@ -168,6 +171,13 @@ module _ (f : List ℕ) (z : fileRefusal f ≡ 0) where
             sym (take-append-drop (2 * letters (pairOf q after)) after) ∙
                 ap₂ (λ (x y : List ℕ). x ++ y) (front ∙ own) (h .rest ∙ ap (λ (j : ℕ). drop j before) m),
           )
+
+  not-valid-holds :
+      (s t : ℕ) (bytes : List ℕ) → checkRefusal f (claimed.pair s t bytes) true ≡ 0 → (Valid (settingOf f) (claimed.pair s t bytes) → ⊥) →
+      Holds f (claimed.not-valid s t bytes)
+  not-valid-holds s t bytes e not-valid r c =
+      let g : CheckedRight f (claimed.pair s t bytes) r = rw e at c in
+      no-only (g .answer) (g .is) (λ yes. not-valid (g .yes′ yes))
 
   answer-holds :
       (b a : ℕ) (received : List ℕ) (v : Answer) → windowRefusal f (window b a) received true ≡ 0 →
@@ -219,10 +229,19 @@ module _ (f : List ℕ) (z : fileRefusal f ≡ 0) where
   claim-holds (claimed.written n i o entries) e =
       let t = both-true (eqb (entriesRefusal n i o entries) 0) (sameList (fileOf n i o entries) f) e in
       λ before r after l p. write-given n i o entries before f r after (eqb-true _ _ (t .0)) (same-list _ _ (t .1)) l p
-  claim-holds (claimed.window o b a) e = window-holds o b a (least-test (machineOf f) o b a (total f (accepted f z)) e)
+  claim-holds (claimed.window o b a) e = window-holds o b a (least-test (machineOf f) (startsOf f) o b a (total f (accepted f z)) (some-state f (accepted f z)) (starts-hold f z) e)
   claim-holds (claimed.no-decoder s t bytes) e =
-      let u = both-true (firstTest (machineOf f) s t bytes) (eqb (checkRefusal f (claimed.pair s t bytes) true) 0) e in
-      no-decoder-holds s t bytes (first-test (machineOf f) s t bytes (u .0)) (first-size (machineOf f) s t bytes (u .0)) (eqb-true _ _ (u .1))
+      let M = machineOf f in
+      let starts = startsOf f in
+      let u = both-true (firstTest M starts s t bytes) (eqb (checkRefusal f (claimed.pair s t bytes) true) 0) e in
+      let h = starts-hold f z in
+      no-decoder-holds s t bytes (first-test M starts s t bytes h (u .0)) (first-size M starts s t bytes h (u .0)) (eqb-true _ _ (u .1))
+  claim-holds (claimed.not-valid s t bytes) e =
+      let p = claimed.pair s t bytes in
+      let v = validTest (machineOf f) (startsOf f) p in
+      let u = both-true (not v) (eqb (checkRefusal f p true) 0) e in
+      not-valid-holds s t bytes (eqb-true _ _ (u .1))
+      (λ valid. true-false (test-valid (machineOf f) (startsOf f) p (starts-hold f z) valid) (not-true v (u .0)))
   claim-holds claimed.different-outputs e = different e
   claim-holds (claimed.answer b a w v) e =
       let d = decoded (coderOf f) (startsOf f) w b in
@@ -264,7 +283,7 @@ cases-hold (c ∷ cs) e =
     (z, claims-hold (c .file) z (c .claims) (u .0), cases-hold cs (u .1))
 
 passed : testCases starred ≡ true
-unfolding test bigEndian checkRefusal windowRefusal tableRefusal runRefusal sidesRefusal leastTest laterOrFails worksTest agree allWords noEarlier firstTest validTest closesTest differentTest allBelow fileRefusal entriesRefusal inRange within entryInRange machineOf entryOf coderOf table tableAt decoded pass added add contribution gather unionOf answerOf leadingZeros hasKey isEntry over windowAt
+unfolding test entriesWord stepWord foundWord allStarts bigEndian checkRefusal windowRefusal tableRefusal runRefusal sidesRefusal leastTest laterOrFails worksTest agree allWords noEarlier firstTest validTest closesTest differentTest allBelow fileRefusal entriesRefusal inRange within entryInRange machineOf entryOf coderOf table tableAt decoded pass added add contribution gather unionOf answerOf leadingZeros hasKey isEntry over windowAt
 passed = refl
 
 -- every starred case: its file is accepted, and all that is claimed of it holds

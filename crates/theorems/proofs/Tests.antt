@@ -3,7 +3,7 @@ use mathlib.Core.Path.{_≡_, refl, sym, ap, ap₂, _∙_}
 use mathlib.Core.Bool.{Bool, true, false, not, _&&_, cond}
 use mathlib.Core.Logic.{_≢_}
 use mathlib.Core.List.{List, [], _∷_}
-use Prim.Native.Nat.{ℕ, zero, suc, _+_, _-_, _*_, _<_}
+use Prim.Native.Nat.{ℕ, zero, suc, _+_, _-_, _*_, _/_, _%_, _^_, _<_}
 use native.Mathlib.Omega.{arith}
 use native.Mathlib.Decide.{ℕ-discrete}
 use lib.ListN.{length, getD, take}
@@ -11,14 +11,18 @@ use lib.Seq.{take-all, length-take-le}
 use lib.Dec.{ltb, leb, eqb}
 use borrow.Author.Tests.{ltb-true, leb-true, eqb-true, eqb-false, lt-ltb, le-leb, eq-eqb, ne-eqb, not-true}
 use Rattle.mealy.specs.Machine.{Machine, outs, end, Letters, Total}
-use Rattle.mealy.specs.Setting.{anyState}
+use Rattle.mealy.specs.Reachable.{Reachable}
+use Rattle.mealy.specs.Word.{Holds}
+use Rattle.mealy.specs.Setting.{fromReachable}
 use Rattle.mealy.specs.Window.{Works}
 use Rattle.mealy.specs.Order.{Least}
 use Rattle.mealy.specs.Product.{Direction, back, forward, Settled, pairs}
 use Rattle.mealy.specs.LoopedPair.{LoopedPair, Run, first, second, letterAt, lettersFrom, mark, unlooped, letters, startOf, runInputs, Valid}
 use Rattle.mealy.specs.First.{Lexicographic, key, First}
 use Rattle.mealy.proofs.PairBytes.{withBytes, valid-letters, valid-cut}
-use Rattle.mealy.proofs.Plain.{works↔same-letter, any-start, any-bounded, any-closed}
+use Rattle.mealy.proofs.Members.{holds-member}
+use Rattle.mealy.proofs.ReachableStates.{reachable-closed, reachable-bounded, dec-reachable}
+use Rattle.mealy.proofs.Plain.{works↔same-letter}
 use Rattle.mealy.proofs.Settling.{settled-by}
 use Rattle.mealy.proofs.LeastWindows.{least-within}
 use Rattle.coder.specs.Refusal.{allBelow, lettersBelow}
@@ -90,93 +94,122 @@ differs : (e d : Bool) → cond e d true ≡ false → (e ≡ true) × (d ≡ fa
 differs true d z = (refl, z)
 differs false d z = absurd (true-false refl z)
 
+-- ---- the states of a word
+
+abbrev isStart : ℕ → ℕ → Bool
+isStart starts s = eqb (starts / 2 ^ s % 2) 1
+
+unfoldable pub allStarts : ℕ → (ℕ → Bool) → Bool
+allStarts starts p = allBelow 16 (λ s. cond (isStart starts s) (p s) true)
+
+module _ {M : Machine} {starts : ℕ} (h : Holds (Reachable M) starts) where
+  start-test : (s : ℕ) → Reachable M s → isStart starts s ≡ true
+  start-test s r = eq-eqb _ _ (h .has s r)
+
+  test-start : (s : ℕ) → isStart starts s ≡ true → Reachable M s
+  test-start s e = holds-member h s (eqb-true _ _ e)
+
+  starts-at : (p : ℕ → Bool) → allStarts starts p ≡ true → (s : ℕ) → Reachable M s → p s ≡ true
+  unfolding allStarts
+  starts-at p e s r =
+      let x = all-at 16 (λ s. cond (isStart starts s) (p s) true) e s (h .below s r) in
+      rw (start-test s r) at x
+
+  starts-false : (p : ℕ → Bool) → allStarts starts p ≡ false → (s : ℕ) × Reachable M s × (p s ≡ false)
+  unfolding allStarts
+  starts-false p e =
+      let x = all-false 16 (λ s. cond (isStart starts s) (p s) true) e in
+      let d = differs (isStart starts (x .0)) (p (x .0)) (x .2) in
+      (x .0, test-start (x .0) (d .0), d .1)
+
 -- ---- windows: all pairs of runs of b + 1 + a letters
 
-module _ (M : Machine) (b a : ℕ) where
+module _ (M : Machine) (starts b a : ℕ) where
   -- runs that differ in output, or have one letter at place b
   unfoldable pub agree : ℕ → ℕ → List ℕ → List ℕ → Bool
   agree s t xs ys = cond (sameList (outs M s xs) (outs M t ys)) (eqb (getD xs b 0) (getD ys b 0)) true
 
   unfoldable pub worksTest : Bool
   worksTest =
-      allBelow (M .states) (λ s. allBelow (M .states) (λ t.
+      allStarts starts (λ s. allStarts starts (λ t.
       allWords (M .inputs) (b + 1 + a) (λ xs. allWords (M .inputs) (b + 1 + a) (λ ys. agree s t xs ys))))
 
-  pub works-test : worksTest ≡ true → Works (anyState M) b a
-  unfolding worksTest agree
-  works-test e = works↔same-letter M b a .1 (λ s t xs ys p q g h k l f.
-      let seconds : ℕ → ℕ → List ℕ → Bool = λ s t xs. allWords (M .inputs) (b + 1 + a) (λ ys. agree s t xs ys) in
-      let runs : ℕ → ℕ → Bool = λ s t. allWords (M .inputs) (b + 1 + a) (λ xs. seconds s t xs) in
-      let x = all-at (M .states) (λ s. allBelow (M .states) (λ t. runs s t)) e s p in
-      let y = all-at (M .states) (λ t. runs s t) x t q in
-      let z = words-at (M .inputs) (b + 1 + a) (λ xs. seconds s t xs) y xs g k in
-      let w = words-at (M .inputs) (b + 1 + a) (λ ys. agree s t xs ys) z ys h l in
-      let same : sameList (outs M s xs) (outs M t ys) ≡ true = rw f (list-same (outs M t ys)) in
-      eqb-true _ _ (rw same at w))
+  module _ (states : Holds (Reachable M) starts) where
+    pub works-test : worksTest ≡ true → Works (fromReachable M) b a
+    unfolding worksTest agree
+    works-test e = works↔same-letter M b a .1 (λ s t xs ys p q g h k l f.
+        let seconds : ℕ → ℕ → List ℕ → Bool = λ s t xs. allWords (M .inputs) (b + 1 + a) (λ ys. agree s t xs ys) in
+        let runs : ℕ → ℕ → Bool = λ s t. allWords (M .inputs) (b + 1 + a) (λ xs. seconds s t xs) in
+        let x = starts-at states (λ s. allStarts starts (λ t. runs s t)) e s p in
+        let y = starts-at states (λ t. runs s t) x t q in
+        let z = words-at (M .inputs) (b + 1 + a) (λ xs. seconds s t xs) y xs g k in
+        let w = words-at (M .inputs) (b + 1 + a) (λ ys. agree s t xs ys) z ys h l in
+        let same : sameList (outs M s xs) (outs M t ys) ≡ true = rw f (list-same (outs M t ys)) in
+        eqb-true _ _ (rw same at w))
 
-  pub fails-test : worksTest ≡ false → Works (anyState M) b a → ⊥
-  unfolding worksTest agree
-  fails-test e f =
-      let seconds : ℕ → ℕ → List ℕ → Bool = λ s t xs. allWords (M .inputs) (b + 1 + a) (λ ys. agree s t xs ys) in
-      let runs : ℕ → ℕ → Bool = λ s t. allWords (M .inputs) (b + 1 + a) (λ xs. seconds s t xs) in
-      let p = all-false (M .states) (λ s. allBelow (M .states) (λ t. runs s t)) e in
-      let q = all-false (M .states) (λ t. runs (p .0) t) (p .2) in
-      let x = words-false (M .inputs) (b + 1 + a) (λ xs. seconds (p .0) (q .0) xs) (q .2) in
-      let y = words-false (M .inputs) (b + 1 + a) (λ ys. agree (p .0) (q .0) (x .xs) ys) (x .fails) in
-      let d = differs (sameList (outs M (p .0) (x .xs)) (outs M (q .0) (y .xs))) (eqb (getD (x .xs) b 0) (getD (y .xs) b 0)) (y .fails) in
-      eqb-false _ _ (d .1)
-      (works↔same-letter M b a .0 f (p .0) (q .0) (x .xs) (y .xs) (p .1) (q .1) (x .below) (y .below) (x .long) (y .long)
-      (same-list _ _ (d .0)))
+    pub fails-test : worksTest ≡ false → Works (fromReachable M) b a → ⊥
+    unfolding worksTest agree
+    fails-test e f =
+        let seconds : ℕ → ℕ → List ℕ → Bool = λ s t xs. allWords (M .inputs) (b + 1 + a) (λ ys. agree s t xs ys) in
+        let runs : ℕ → ℕ → Bool = λ s t. allWords (M .inputs) (b + 1 + a) (λ xs. seconds s t xs) in
+        let p = starts-false states (λ s. allStarts starts (λ t. runs s t)) e in
+        let q = starts-false states (λ t. runs (p .0) t) (p .2) in
+        let x = words-false (M .inputs) (b + 1 + a) (λ xs. seconds (p .0) (q .0) xs) (q .2) in
+        let y = words-false (M .inputs) (b + 1 + a) (λ ys. agree (p .0) (q .0) (x .xs) ys) (x .fails) in
+        let d = differs (sameList (outs M (p .0) (x .xs)) (outs M (q .0) (y .xs))) (eqb (getD (x .xs) b 0) (getD (y .xs) b 0)) (y .fails) in
+        eqb-false _ _ (d .1)
+        (works↔same-letter M b a .0 f (p .0) (q .0) (x .xs) (y .xs) (p .1) (q .1) (x .below) (y .below) (x .long) (y .long)
+        (same-list _ _ (d .0)))
 
 -- ---- the least window in an order: it works, and none that comes before it does
 
-module _ (M : Machine) (o : Order) (b a : ℕ) where
+module _ (M : Machine) (starts : ℕ) (o : Order) (b a : ℕ) where
   -- b a comes no later than the window b′ a′, or that does not work
   unfoldable pub laterOrFails : ℕ → ℕ → Bool
-  laterOrFails b′ a′ = cond (noLater o (window b a) (window b′ a′)) true (not (worksTest M b′ a′))
+  laterOrFails b′ a′ = cond (noLater o (window b a) (window b′ a′)) true (not (worksTest M starts b′ a′))
 
   -- tried up to N (N + 1) / 2 letters a side, from the smallest number of letters before on
   unfoldable pub leastTest : Bool
   leastTest =
       let n = pairs (M .states) in
-      worksTest M b a && allBelow (n + 1) (λ k. allBelow (n + 1) (λ a′. laterOrFails (n - k) a′))
+      worksTest M starts b a && allBelow (n + 1) (λ k. allBelow (n + 1) (λ a′. laterOrFails (n - k) a′))
 
-  later-or-fails : (b′ a′ : ℕ) → laterOrFails b′ a′ ≡ true → Works (anyState M) b′ a′ → relationOf o b a b′ a′
+  later-or-fails : Holds (Reachable M) starts → (b′ a′ : ℕ) → laterOrFails b′ a′ ≡ true → Works (fromReachable M) b′ a′ → relationOf o b a b′ a′
   unfolding laterOrFails
-  later-or-fails b′ a′ e f = go (noLater o (window b a) (window b′ a′)) refl e
+  later-or-fails states b′ a′ e f = go (noLater o (window b a) (window b′ a′)) refl e
     where
       go :
-          (t : Bool) → noLater o (window b a) (window b′ a′) ≡ t → cond t true (not (worksTest M b′ a′)) ≡ true →
+          (t : Bool) → noLater o (window b a) (window b′ a′) ≡ t → cond t true (not (worksTest M starts b′ a′)) ≡ true →
           relationOf o b a b′ a′
       go true z h = no-later o (window b a) (window b′ a′) .0 z
-      go false z h = absurd (fails-test M b′ a′ (not-true _ h) f)
+      go false z h = absurd (fails-test M starts b′ a′ states (not-true _ h) f)
 
-  pub least-test : Total M → leastTest ≡ true → Least (relationOf o) (anyState M) b a
+  pub least-test : Total M → 0 < M .states → Holds (Reachable M) starts → leastTest ≡ true → Least (relationOf o) (fromReachable M) b a
   unfolding leastTest
-  least-test total e =
+  least-test total some states e =
       let n = pairs (M .states) in
-      let S = anyState M in
-      let settled : (d : Direction) → Settled S d n = λ d. settled-by S (any-start M) (any-bounded M) d n (omega arith) in
+      let S = fromReachable M in
+      let settled : (d : Direction) → Settled S d n = λ d. settled-by S (dec-reachable M total some) (reachable-bounded M total some) d n (omega arith) in
       let row : ℕ → Bool = λ k. allBelow (n + 1) (λ a′. laterOrFails (n - k) a′) in
-      let z = both-true (worksTest M b a) (allBelow (n + 1) row) e in
-      least-within (is-order o) S (any-closed M total) n (settled forward) n (settled back) b a (works-test M b a (z .0)) (λ b′ a′ l m f.
+      let z = both-true (worksTest M starts b a) (allBelow (n + 1) row) e in
+      least-within (is-order o) S (reachable-closed M) n (settled forward) n (settled back) b a (works-test M starts b a states (z .0)) (λ b′ a′ l m f.
       let r = all-at (n + 1) row (z .1) (n - b′) (omega arith) in
       let same : n - (n - b′) ≡ b′ = omega arith in
-      later-or-fails b′ a′ (rw same at (all-at (n + 1) (λ a′. laterOrFails (n - (n - b′)) a′) r a′ (omega arith))) f)
+      later-or-fails states b′ a′ (rw same at (all-at (n + 1) (λ a′. laterOrFails (n - (n - b′)) a′) r a′ (omega arith))) f)
 
 -- ---- looped pairs
 
-module _ (M : Machine) (p : LoopedPair) where
+module _ (M : Machine) (starts : ℕ) (p : LoopedPair) where
   unfoldable pub closesTest : Run → Bool
   closesTest r =
-      (ltb (startOf p r) (M .states) && (lettersBelow (M .inputs) (runInputs p r) && (eqb (end M (startOf p r) (lettersFrom p r 0 (p .back-loop))) (startOf p r) && eqb (end M (startOf p r) (runInputs p r)) (end M (startOf p r) (lettersFrom p r 0 (unlooped p))))))
+      (isStart starts (startOf p r) && (lettersBelow (M .inputs) (runInputs p r) && (eqb (end M (startOf p r) (lettersFrom p r 0 (p .back-loop))) (startOf p r) && eqb (end M (startOf p r) (runInputs p r)) (end M (startOf p r) (lettersFrom p r 0 (unlooped p))))))
 
   unfoldable pub validTest : Bool
   validTest =
       (leb (2 * letters p) (length (p .bytes)) && (ltb 0 (p .back-loop) && (ltb 0 (p .forward-loop) && (sameList (outs M (p .s) (runInputs p first)) (outs M (p .t) (runInputs p second)) && (not (eqb (letterAt p first (mark p)) (letterAt p second (mark p))) && (closesTest first && closesTest second))))))
 
   record ClosedRun (r : Run) : Type 0 where
-    start : startOf p r < M .states
+    start : isStart starts (startOf p r) ≡ true
     below : Letters (M .inputs) (runInputs p r)
     back-closed : end M (startOf p r) (lettersFrom p r 0 (p .back-loop)) ≡ startOf p r
     forward-closed : end M (startOf p r) (runInputs p r) ≡ end M (startOf p r) (lettersFrom p r 0 (unlooped p))
@@ -187,19 +220,19 @@ module _ (M : Machine) (p : LoopedPair) where
       let f = eqb (end M (startOf p r) (runInputs p r)) (end M (startOf p r) (lettersFrom p r 0 (unlooped p))) in
       let b = eqb (end M (startOf p r) (lettersFrom p r 0 (p .back-loop))) (startOf p r) in
       let l = lettersBelow (M .inputs) (runInputs p r) in
-      let x = both-true (ltb (startOf p r) (M .states)) (l && (b && f)) e in
+      let x = both-true (isStart starts (startOf p r)) (l && (b && f)) e in
       let y = both-true l (b && f) (x .1) in
       let z = both-true b f (y .1) in
       record {
-        start = ltb-true _ _ (x .0);
+        start = x .0;
         below = letters-below (M .inputs) (runInputs p r) (y .0);
         back-closed = eqb-true _ _ (z .0);
         forward-closed = eqb-true _ _ (z .1);
       }
 
-  pub valid-test : validTest ≡ true → Valid (anyState M) p
+  pub valid-test : Holds (Reachable M) starts → validTest ≡ true → Valid (fromReachable M) p
   unfolding validTest
-  valid-test e =
+  valid-test states e =
       let c = (closesTest first && closesTest second) in
       let d = not (eqb (letterAt p first (mark p)) (letterAt p second (mark p))) in
       let o = sameList (outs M (p .s) (runInputs p first)) (outs M (p .t) (runInputs p second)) in
@@ -214,7 +247,7 @@ module _ (M : Machine) (p : LoopedPair) where
       let run : (r : Run) → ClosedRun r = λ r. elim r [ first ↦ closed-run first (w .0) | second ↦ closed-run second (w .1) ] in
       record {
         held = leb-true _ _ (x .0);
-        start = λ r. run r .start;
+        start = λ r. test-start states (startOf p r) (run r .start);
         below = λ r. run r .below;
         back-letter = ltb-true _ _ (y .0);
         forward-letter = ltb-true _ _ (z .0);
@@ -225,19 +258,19 @@ module _ (M : Machine) (p : LoopedPair) where
       }
 
   -- and the other way round
-  runs-closed : Valid (anyState M) p → (r : Run) → closesTest r ≡ true
+  runs-closed : Holds (Reachable M) starts → Valid (fromReachable M) p → (r : Run) → closesTest r ≡ true
   unfolding closesTest
-  runs-closed v r =
+  runs-closed states v r =
       rw (
-        lt-ltb (startOf p r) (M .states) (v .start r),
+        start-test states (startOf p r) (v .start r),
         letters-test (M .inputs) (runInputs p r) (v .below r),
         eq-eqb (end M (startOf p r) (lettersFrom p r 0 (p .back-loop))) (startOf p r) (v .back-closed r),
         eq-eqb (end M (startOf p r) (runInputs p r)) (end M (startOf p r) (lettersFrom p r 0 (unlooped p))) (v .forward-closed r),
       )
 
-  pub test-valid : Valid (anyState M) p → validTest ≡ true
+  pub test-valid : Holds (Reachable M) starts → Valid (fromReachable M) p → validTest ≡ true
   unfolding validTest
-  test-valid v =
+  test-valid states v =
       let same : sameList (outs M (p .s) (runInputs p first)) (outs M (p .t) (runInputs p second)) ≡ true =
       rw (v .outputs) (list-same (outs M (p .t) (runInputs p second))) in
       rw (
@@ -246,8 +279,8 @@ module _ (M : Machine) (p : LoopedPair) where
         lt-ltb 0 (p .forward-loop) (v .forward-letter),
         same,
         ne-eqb (letterAt p first (mark p)) (letterAt p second (mark p)) (v .conflict),
-        runs-closed v first,
-        runs-closed v second,
+        runs-closed states v first,
+        runs-closed states v second,
       )
 
 -- ---- the first pair, of three letters
@@ -265,27 +298,27 @@ lexicographic-test (x ∷ xs) (y ∷ ys) e = elim (ℕ-discrete x y) [
   | no q ↦ (let l : x < y = ltb-true x y (rw (ne-eqb x y q) at e) in omega arith, λ f. absurd (q f))
 ]
 
-module _ (M : Machine) (s t : ℕ) (bytes : List ℕ) where
+module _ (M : Machine) (starts s t : ℕ) (bytes : List ℕ) where
   -- another pair of three letters is not valid, or comes no earlier
   unfoldable pub noEarlier : ℕ → ℕ → List ℕ → Bool
-  noEarlier s′ t′ w = cond (validTest M (pair s′ t′ w)) (lexicographicTest (s ∷ t ∷ bytes) (s′ ∷ t′ ∷ w)) true
+  noEarlier s′ t′ w = cond (validTest M starts (pair s′ t′ w)) (lexicographicTest (s ∷ t ∷ bytes) (s′ ∷ t′ ∷ w)) true
 
   unfoldable pub firstTest : Bool
   firstTest =
-      validTest M (pair s t bytes) &&
-      (eqb (length bytes) 6 && allBelow (M .states) (λ s′. allBelow (M .states) (λ t′. allWords (M .inputs) 6 (noEarlier s′ t′))))
+      validTest M starts (pair s t bytes) &&
+      (eqb (length bytes) 6 && allStarts starts (λ s′. allStarts starts (λ t′. allWords (M .inputs) 6 (noEarlier s′ t′))))
 
-  module _ (e : firstTest ≡ true) where
+  module _ (states : Holds (Reachable M) starts) (e : firstTest ≡ true) where
     record Parts : Type 0 where
-      valid : validTest M (pair s t bytes) ≡ true
+      valid : validTest M starts (pair s t bytes) ≡ true
       size : length bytes ≡ 6
-      others : allBelow (M .states) (λ s′. allBelow (M .states) (λ t′. allWords (M .inputs) 6 (noEarlier s′ t′))) ≡ true
+      others : allStarts starts (λ s′. allStarts starts (λ t′. allWords (M .inputs) 6 (noEarlier s′ t′))) ≡ true
 
     parts : Parts
     unfolding firstTest
     parts =
-        let o = allBelow (M .states) (λ s′. allBelow (M .states) (λ t′. allWords (M .inputs) 6 (noEarlier s′ t′))) in
-        let x = both-true (validTest M (pair s t bytes)) (eqb (length bytes) 6 && o) e in
+        let o = allStarts starts (λ s′. allStarts starts (λ t′. allWords (M .inputs) 6 (noEarlier s′ t′))) in
+        let x = both-true (validTest M starts (pair s t bytes)) (eqb (length bytes) 6 && o) e in
         let y = both-true (eqb (length bytes) 6) o (x .1) in
         record { valid = x .0; size = eqb-true _ _ (y .0); others = y .1 }
 
@@ -294,18 +327,18 @@ module _ (M : Machine) (s t : ℕ) (bytes : List ℕ) where
 
     -- another valid pair of three letters, with those bytes alone
     no-earlier :
-        (s′ t′ : ℕ) (w : List ℕ) → Valid (anyState M) (pair s′ t′ w) → Letters (M .inputs) w → length w ≡ 6 →
+        (s′ t′ : ℕ) (w : List ℕ) → Valid (fromReachable M) (pair s′ t′ w) → Letters (M .inputs) w → length w ≡ 6 →
         Lexicographic (s ∷ t ∷ bytes) (s′ ∷ t′ ∷ w)
     unfolding noEarlier
     no-earlier s′ t′ w v l n =
-        let x = all-at (M .states) (λ a. allBelow (M .states) (λ b. allWords (M .inputs) 6 (noEarlier a b))) (parts .others) s′ (v .start first) in
-        let y = all-at (M .states) (λ b. allWords (M .inputs) 6 (noEarlier s′ b)) x t′ (v .start second) in
+        let x = starts-at states (λ a. allStarts starts (λ b. allWords (M .inputs) 6 (noEarlier a b))) (parts .others) s′ (v .start first) in
+        let y = starts-at states (λ b. allWords (M .inputs) 6 (noEarlier s′ b)) x t′ (v .start second) in
         let z = words-at (M .inputs) 6 (noEarlier s′ t′) y w l n in
-        lexicographic-test (s ∷ t ∷ bytes) (s′ ∷ t′ ∷ w) (rw (test-valid M (pair s′ t′ w) v) at z)
+        lexicographic-test (s ∷ t ∷ bytes) (s′ ∷ t′ ∷ w) (rw (test-valid M starts (pair s′ t′ w) states v) at z)
 
     -- a valid pair with three letters in all has one in each loop and none between them and the mark
     three-letters :
-        (q : LoopedPair) → Valid (anyState M) q → (n : ℕ) → 2 * letters q ≡ n → letters q ≡ 3 →
+        (q : LoopedPair) → Valid (fromReachable M) q → (n : ℕ) → 2 * letters q ≡ n → letters q ≡ 3 →
         Lexicographic (s ∷ t ∷ bytes) (q .s ∷ q .t ∷ take n (q .bytes))
     three-letters q v n f d =
         let b = v .back-letter in
@@ -314,20 +347,20 @@ module _ (M : Machine) (s t : ℕ) (bytes : List ℕ) where
         let e₂ : q .lead-in ≡ 0 = omega arith in
         let e₃ : q .lead-out ≡ 0 = omega arith in
         let e₄ : q .forward-loop ≡ 1 = omega arith in
-        let cut : Valid (anyState M) (withBytes q (take n (q .bytes))) = rw f at (valid-cut (anyState M) q v) in
-        no-earlier (q .s) (q .t) (take n (q .bytes)) (three-as e₁ e₂ e₃ e₄ cut) (rw f at (valid-letters (anyState M) q v))
+        let cut : Valid (fromReachable M) (withBytes q (take n (q .bytes))) = rw f at (valid-cut (fromReachable M) q v) in
+        no-earlier (q .s) (q .t) (take n (q .bytes)) (three-as e₁ e₂ e₃ e₄ cut) (rw f at (valid-letters (fromReachable M) q v))
         (length-take-le n (q .bytes) (omega (arith, v .held)) ∙ omega arith)
       where
         three-as :
             {s′ t′ bl li lo fl : ℕ} {w : List ℕ} → bl ≡ 1 → li ≡ 0 → lo ≡ 0 → fl ≡ 1 →
-            Valid (anyState M) (record { s = s′; t = t′; back-loop = bl; lead-in = li; lead-out = lo; forward-loop = fl; bytes = w }) →
-            Valid (anyState M) (pair s′ t′ w)
+            Valid (fromReachable M) (record { s = s′; t = t′; back-loop = bl; lead-in = li; lead-out = lo; forward-loop = fl; bytes = w }) →
+            Valid (fromReachable M) (pair s′ t′ w)
         three-as e₁ e₂ e₃ e₄ h = rw (e₁, e₂, e₃, e₄) at h
 
-    pub first-test : First (anyState M) (pair s t bytes)
-    first-test = record { valid = valid-test M (pair s t bytes) (parts .valid); first = go }
+    pub first-test : First (fromReachable M) (pair s t bytes)
+    first-test = record { valid = valid-test M starts (pair s t bytes) states (parts .valid); first = go }
       where
-        go : (q : LoopedPair) → Valid (anyState M) q → Lexicographic (key (pair s t bytes)) (key q)
+        go : (q : LoopedPair) → Valid (fromReachable M) q → Lexicographic (key (pair s t bytes)) (key q)
         go q v =
             let b = v .back-letter in
             let c = v .forward-letter in

@@ -4,5 +4,6 @@ pub mod Handed
 pub mod RoundTrip
 pub mod Files
 pub mod TableLimit
+pub mod SpareStates
 pub mod Starred
 pub mod Demands

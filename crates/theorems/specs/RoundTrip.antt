@@ -4,7 +4,8 @@ use mathlib.Core.List.{List}
 use Prim.Native.Nat.{ℕ, _+_, _≤_, _<_}
 use lib.ListN.{length, getD, take}
 use Rattle.mealy.specs.Machine.{end, Letters}
-use Rattle.coder.specs.File.{fileRefusal, statesOf, inputsOf, machineOf}
+use Rattle.mealy.specs.Reachable.{Reachable}
+use Rattle.coder.specs.File.{fileRefusal, inputsOf, machineOf}
 use Rattle.running.specs.Run.{RunPromise}
 use Rattle.running.specs.declared.RunResult.{RunResult}
 use Rattle.running.specs.declared.RunResult as run
@@ -20,10 +21,11 @@ use Rattle.decoder.specs.Places.{places, StringPromise}
 use Rattle.layout.specs.Layout.{resultBytes, fieldAt}
 use Rattle.lowhenita.specs.Host.{RunHosted, SearchHosted, DecodeHosted}
 
--- The letters xs can be coded from state s: the file is accepted, and state and letters are the coder's.
+-- The letters xs can be coded from state s: the file is accepted, the state is reachable (document 02, 5/13, last sentence), and the
+-- letters are the coder's.
 pub record Coded (f : List ℕ) (s : ℕ) (xs : List ℕ) : Type 0 where
   pub file : fileRefusal f ≡ 0
-  pub start : s < statesOf f
+  pub start : Reachable (machineOf f) s
   pub letters : Letters (inputsOf f) xs
 
 -- The decoded bytes are the input letters with a full window, each at its place.

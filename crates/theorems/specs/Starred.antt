@@ -1,10 +1,10 @@
 -- The starred cases of document 01 ("Example coders"): one table of coder files and what is claimed of each; the windows in both orders,
--- with the one of coder G that document 02, 1/13, names, and the first looped pairs, with the one of coder C that 2/13 names. A claim on a
--- call says that every outcome that the call promises on this file is the one named.
+-- with those of the coders G and H that document 02, 1/13 and 5/13, name, and the first looped pairs, with the one of coder C that 2/13
+-- names. A claim on a call says that every outcome that the call promises on this file is the one named.
 use Prim.Native.Nat.{ℕ, _≤_, _<_}
 use mathlib.Core.Path.{_≡_}
 use mathlib.Core.Logic.{_≢_}
-use mathlib.Core.Bool.{true}
+use mathlib.Core.Bool.{true, false}
 use mathlib.Core.List.{List, [], _∷_, _++_}
 use lib.ListN.{length, drop}
 use Rattle.mealy.specs.LoopedPair as mealy
@@ -47,6 +47,8 @@ pub data Claim : Type 0 where
   -- the search in any order says "no decoder" with the looped pair of three letters that has these start states and bytes, and the checker
   -- says yes to it
   no-decoder : ℕ → ℕ → List ℕ → Claim
+  -- the checker says no to the looped pair of three letters that has these start states and bytes
+  not-valid : ℕ → ℕ → List ℕ → Claim
   -- from equal states different letters give different outputs
   different-outputs : Claim
   -- the answer for the letters of a window
@@ -73,6 +75,7 @@ Holds f (no-decoder s t bytes) =
     ((o : Order) (before : List ℕ) (r : SearchResult) (after : List ℕ) → wanted ≤ length before → SearchPromise o f before r after →
     (r ≡ Found (NoDecoder (loopedPair s t 1 0 0 1))) × (after ≡ withFront bytes before)) ×
     ((r : CheckResult) → CheckPromise f (pair s t bytes) r → r ≡ Checked true)
+Holds f (not-valid s t bytes) = (r : CheckResult) → CheckPromise f (pair s t bytes) r → r ≡ Checked false
 Holds f different-outputs =
     (s i j : ℕ) → s < statesOf f → i < inputsOf f → j < inputsOf f → i ≢ j → machineOf f .out s i ≢ machineOf f .out s j
 Holds f (answer b a received v) = (r : WindowResult) → WindowPromise f (values.window b a) received r → r ≡ Answered v
@@ -113,8 +116,11 @@ starred =
       file = 1 ∷ 0 ∷ 19 ∷ 4 ∷ 2 ∷ 6 ∷ 1 ∷ 4 ∷ 1 ∷ 5 ∷ 2 ∷ 0 ∷ 3 ∷ 0 ∷ 2 ∷ 0 ∷ 2 ∷ 1 ∷ 3 ∷ 2 ∷ 3 ∷ 3 ∷ [];
       claims = window defaultOrder 2 0 ∷ window FewestLetters 0 1 ∷ answer 0 1 (0 ∷ 0 ∷ []) (Letter 0) ∷ answer 0 1 (0 ∷ 2 ∷ []) (Letter 1) ∷ answer 0 1 (1 ∷ 2 ∷ []) None ∷ answer 0 0 (0 ∷ []) Several ∷ [];
     } ∷
-    -- H
-    record { file = 1 ∷ 0 ∷ 11 ∷ 2 ∷ 2 ∷ 2 ∷ 0 ∷ 0 ∷ 0 ∷ 1 ∷ 1 ∷ 0 ∷ 1 ∷ 0 ∷ []; claims = no-decoder 0 1 (0 ∷ 0 ∷ 0 ∷ 1 ∷ 0 ∷ 0 ∷ []) ∷ [] } ∷
+    -- H, with a spare state
+    record {
+      file = 1 ∷ 0 ∷ 11 ∷ 2 ∷ 2 ∷ 2 ∷ 0 ∷ 0 ∷ 0 ∷ 1 ∷ 1 ∷ 0 ∷ 1 ∷ 0 ∷ [];
+      claims = window defaultOrder 0 0 ∷ window FewestLetters 0 0 ∷ table 0 0 (0 ∷ 1 ∷ []) ∷ not-valid 1 1 (0 ∷ 0 ∷ 0 ∷ 1 ∷ 0 ∷ 0 ∷ []) ∷ not-valid 0 1 (0 ∷ 0 ∷ 0 ∷ 1 ∷ 0 ∷ 0 ∷ []) ∷ run 1 (1 ∷ 0 ∷ []) (0 ∷ 0 ∷ []) 1 ∷ [];
+    } ∷
     []
 
 -- The file is accepted and all its claims hold; and so for each case of a list.

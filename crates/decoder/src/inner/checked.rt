@@ -12,7 +12,7 @@ use coder::inner::tables::Coder;
 use filling::inner::table::fill;
 use fitting::inner::tables::of_coder;
 use fitting::inner::window::decode;
-use setting::inner::start_states;
+use starts::inner::start_states;
 use table_size::inner::size;
 use values::Window;
 

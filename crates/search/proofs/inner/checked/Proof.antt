@@ -1,9 +1,12 @@
 -- `checked` meets its contract: the verdict on the coder of the file, with words that say the file's setting.
+use mathlib.Core.Path.{ap}
+use native.Mathlib.Omega.{arith}
 use denote.Ref.{now}
 use borrow.Author.Tests.{leb-true}
+use Rattle.mealy.specs.Machine.{Machine}
 use Rattle.coder.proofs.Accepted.{Accepted, accepted}
 use Rattle.setting.specs.Words.{WordsOf}
-use Rattle.setting.proofs.Same.{coder-sound, file-closed, same-setting, words-closed}
+use Rattle.setting.proofs.Same.{coder-sound, coder-machine, same-setting, words-closed}
 use Rattle.values.specs.Order.{relationOf}
 use Rattle.search.proofs.Files.{says-same, search-accepted}
 use borrow.Author.Needs.{needs}
@@ -54,8 +57,9 @@ returns c =
     let d = v .before .before .before in
     let f = coder d in
     let a = file-accepted (start f) in
-    says-same (relationOf (start f .args .order)) (same-setting (f .from-checked .ensures) a (words d)) (file-closed (f .from-checked .ensures) a) (v .verdict .result)
-    _ _ (v .verdict .ensures)
+    let e = f .from-checked .ensures in
+    let same = ap (λ (M : Machine). M .states) (coder-machine e a) in
+    says-same (relationOf (start f .args .order)) (same-setting e a (words d)) (omega arith) (v .verdict .result) _ _ (v .verdict .ensures)
 
 pub checked-spec : {M : Type 1} → statement M
 checked-spec =

@@ -1,0 +1,75 @@
+-- The reachable states of a machine with at most 16 states as a word that is computed.
+use mathlib.Core.Path.{_≡_, refl, sym}
+use mathlib.Core.Bool.{cond}
+use Prim.Native.Nat.{ℕ, zero, suc, _/_, _%_, _^_, _≤_, _<_}
+use native.Mathlib.Omega.{arith}
+use native.Mathlib.Decide.{ℕ-discrete}
+use lib.Bits.{bitOr}
+use lib.Dec.{eqb}
+use borrow.Author.Tests.{eq-eqb, ne-eqb}
+use Rattle.mealy.specs.Machine.{Machine, Total}
+use Rattle.mealy.specs.Reachable.{Reachable, EntryTo}
+use Rattle.mealy.specs.Image.{Image}
+use Rattle.mealy.specs.Word.{Has, Holds}
+use Rattle.mealy.proofs.Words.{holds-map, holds-none, holds-one, holds-union}
+use Rattle.mealy.proofs.Members.{holds-member}
+use Rattle.mealy.proofs.OneMore.{next-below, holds-more}
+use Rattle.mealy.proofs.ReachableStates.{Found, found-bounded, found↔reachable}
+
+-- the states that the entries of state s on its first n letters lead to
+unfoldable pub entriesWord : Machine → ℕ → ℕ → ℕ
+entriesWord M s zero = 0
+entriesWord M s (suc n) = bitOr (entriesWord M s n) (2 ^ M .next s n)
+
+-- those of the first n states, of such as are in the set u
+unfoldable pub stepWord : Machine → ℕ → ℕ → ℕ
+stepWord M u zero = 0
+stepWord M u (suc n) = bitOr (stepWord M u n) (cond (eqb (u / 2 ^ n % 2) 1) (entriesWord M n (M .inputs)) 0)
+
+-- what k steps find from state 0
+unfoldable pub foundWord : Machine → ℕ → ℕ
+foundWord M zero = 1
+foundWord M (suc k) = let u = foundWord M k in bitOr u (stepWord M u (M .states))
+
+module _ (M : Machine) (total : Total M) (some : 0 < M .states) (few : M .states ≤ 16) where
+  entries-hold :
+      (s n : ℕ) → s < M .states → n ≤ M .inputs → Holds (Image (λ i t. M .next s i ≡ t) (λ i. i < n)) (entriesWord M s n)
+  unfolding entriesWord
+  entries-hold s zero l m = holds-none (λ t h. let z = h .from in omega arith)
+  entries-hold s (suc n) l m =
+      holds-more (next-below (omega arith)) (entries-hold s n l (omega arith))
+      (holds-one (M .next s n) (omega (arith, total s n l (omega arith))) refl (λ t e. sym e))
+
+  all-entries : (s : ℕ) → s < M .states → Holds (EntryTo M s) (entriesWord M s (M .inputs))
+  all-entries s l =
+      holds-map (λ t h. record { x = h .s; letter = h .from; to = h .step }) (λ t e. record { s = e .x; from = e .letter; step = e .to })
+      (entries-hold s (M .inputs) l (omega arith))
+
+  state-holds :
+      (u s : ℕ) → s < M .states → Holds (λ t. Has u s × EntryTo M s t) (cond (eqb (u / 2 ^ s % 2) 1) (entriesWord M s (M .inputs)) 0)
+  state-holds u s l =
+      elim (ℕ-discrete (u / 2 ^ s % 2) 1) [
+        | yes e ↦ rw (eq-eqb _ _ e) (holds-map (λ t h. (e, h)) (λ t h. h .1) (all-entries s l))
+        | no e ↦ rw (ne-eqb _ _ e) (holds-none (λ t h. e (h .0)))
+      ]
+
+  step-holds : (u n : ℕ) → n ≤ M .states → Holds (Image (λ s t. Has u s × EntryTo M s t) (λ s. s < n)) (stepWord M u n)
+  unfolding stepWord
+  step-holds u zero m = holds-none (λ t h. let z = h .from in omega arith)
+  step-holds u (suc n) m = holds-more (next-below (omega arith)) (step-holds u n (omega arith)) (state-holds u n (omega arith))
+
+  found-holds : (k : ℕ) → Holds (Found M k) (foundWord M k)
+  unfolding foundWord
+  found-holds zero = holds-one 0 (omega arith) refl (λ s e. e)
+  found-holds (suc k) =
+      let a = found-holds k in
+      holds-union a
+      (holds-map
+      (λ t h. record { s = h .s; from = holds-member a (h .s) (h .step .0); step = h .step .1 })
+      (λ t h. record { s = h .s; from = found-bounded M total some k (h .s) (h .from); step = (a .has (h .s) (h .from), h .step) })
+      (step-holds (foundWord M k) (M .states) (omega arith)))
+
+  pub reachable-holds : Holds (Reachable M) (foundWord M (M .states))
+  reachable-holds =
+      let f = found↔reachable M total some (M .states) (omega arith) in
+      holds-map (λ s. f s .0) (λ s. f s .1) (found-holds (M .states))

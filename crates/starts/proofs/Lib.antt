@@ -1,0 +1,3 @@
+-- Laws on the steps from state to state, and the reachable states computed.
+pub mod Steps
+pub mod Computed

@@ -1,0 +1,21 @@
+-- `start_states` meets its contract: what the steps of the coder reach.
+use mathlib.Core.Path.{refl}
+use borrow.Author.Needs.{needs}
+use Rattle.coder.specs.Table.{machineOfCoder}
+use Rattle.starts.proofs.inner.start_states.Statement.{statement}
+use Rattle.starts.proofs.inner.start_states.Tie as tie
+
+steps-requires : tie.Need-steps-requires
+steps-requires c κs = search needs
+
+reached-requires : tie.Need-reached-requires
+reached-requires c κs = c .before .steps .ensures .each
+
+returns : tie.Need-returns
+returns c =
+    let w = c .before .before in
+    let sound = w .before .pre in
+    c .reached .ensures (machineOfCoder (w .before .args .c)) refl (sound .states-low) (λ s i l m. sound .next-state s i) (w .steps .ensures)
+
+pub start-states-spec : {M : Type 1} → statement M
+start-states-spec = tie.close (tie.spec steps-requires reached-requires returns)

@@ -1,0 +1,2 @@
+-- What the contracts of the start states cite.
+pub mod Steps

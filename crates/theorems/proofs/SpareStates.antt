@@ -1,0 +1,224 @@
+-- Spare states do not count: the promises on a file are those on the padded one, and two outcomes that meet a promise are equal.
+use mathlib.Core.Path.{_≡_, refl, ap, _∙_}
+use mathlib.Core.Bool.{Bool, true}
+use mathlib.Core.List.{List}
+use Prim.Native.Nat.{ℕ, _≤_, _<_}
+use native.Mathlib.Omega.{arith}
+use lib.ListN.{take, drop}
+use borrow.Author.Tests.{lt-ltb}
+use Rattle.mealy.specs.Setting.{Same}
+use Rattle.mealy.specs.LoopedPair.{LoopedPair, Run, first, second, startOf, Valid}
+use Rattle.mealy.proofs.Plain.{works↔same-letter}
+use Rattle.mealy.proofs.SameSettings.{same-sym, works-same, least-same, answers-same, valid-same, first-same, same-padded, all-reachable}
+use Rattle.coder.specs.Refusal.{Judges}
+use Rattle.coder.specs.File.{statesOf, inputsOf, outputsOf, machineOf, settingOf}
+use Rattle.coder.proofs.Accepted.{accepted}
+use Rattle.coder.proofs.Judging.{judges-map}
+use Rattle.coder.proofs.Refusals.{upon-map}
+use Rattle.coder.proofs.Tables.{total, some-state}
+use Rattle.mealy.specs.Index.{windowAt}
+use Rattle.values.specs.Window.{size}
+use Rattle.values.specs.declared.Window.{Window}
+use Rattle.values.specs.declared.Order.{Order}
+use Rattle.values.specs.Order.{relationOf, defaultOrder}
+use Rattle.values.specs.declared.CountResult.{CountResult}
+use Rattle.fitting.specs.Answer.{meaning, RightByte}
+use Rattle.search.specs.Search.{searchRefusal, Says, FoundVerdict, RefusedSearch}
+use Rattle.search.specs.declared.Verdict.{Verdict}
+use Rattle.search.proofs.Files.{says-same}
+use Rattle.search.proofs.Determined as search
+use Rattle.decoder.specs.Count.{CountPromise}
+use Rattle.decoder.specs.Refusal.{sidesRefusal, windowRefusal, stringRefusal, tableSize, tableRefusal}
+use Rattle.decoder.specs.Written.{Written}
+use Rattle.decoder.specs.Window.{AnsweredRight}
+use Rattle.decoder.specs.Table.{EntryOf, tableRefusalIn}
+use Rattle.decoder.specs.declared.WindowResult.the-variants as window
+use Rattle.decoder.proofs.Writing.{written-map}
+use Rattle.decoder.proofs.Determined as decoder
+use Rattle.checker.specs.Check.{checkRefusal, CheckedRight}
+use Rattle.checker.proofs.Determined as checker
+use Rattle.checker.specs.declared.CheckResult.the-variants as check
+use Rattle.lowhenita.specs.Host.{Hosted, BytesGiven}
+use Rattle.lowhenita.proofs.Determined as host
+use Rattle.theorems.specs.SpareStates.{PaddedFile, SameOutcomes, SameOutcomesFromC, SpareStates}
+use Rattle.theorems.proofs.RoundTrip.{states-are}
+use Rattle.theorems.proofs.SearchChecked.{no-only}
+
+-- ---- the promises on the padded file
+
+module _ {f f′ : List ℕ} (h : PaddedFile f f′) where
+  same : Same (settingOf f) (settingOf f′)
+  same = same-padded (h .entries)
+
+  inputs-same : inputsOf f ≡ inputsOf f′
+  unfolding machineOf
+  inputs-same = h .entries .inputs
+
+  fewer : machineOf f .states ≤ machineOf f′ .states
+  unfolding machineOf
+  fewer = h .states
+
+  -- the refusals
+  search-number : (fits : Bool) → searchRefusal f fits ≡ searchRefusal f′ fits
+  unfolding searchRefusal
+  search-number fits = rw (h .file, h .file′)
+
+  sides-number : (w : Window) → sidesRefusal f w ≡ sidesRefusal f′ w
+  unfolding sidesRefusal
+  sides-number w = rw (h .file, h .file′)
+
+  window-number : (w : Window) (received : List ℕ) (fits : Bool) → windowRefusal f w received fits ≡ windowRefusal f′ w received fits
+  unfolding windowRefusal
+  window-number w received fits = rw (sides-number w, h .outputs)
+
+  string-number : (w : Window) (received : List ℕ) (fits : Bool) → stringRefusal f w received fits ≡ stringRefusal f′ w received fits
+  unfolding stringRefusal
+  string-number w received fits = rw (sides-number w, h .outputs)
+
+  table-number : (w : Window) (fits : Bool) → tableRefusal f w fits ≡ tableRefusal f′ w fits
+  unfolding tableRefusal
+  table-number w fits = rw (sides-number w, h .outputs)
+
+  check-number : (p : LoopedPair) (fits : Bool) → ((u : Run) → startOf p u < statesOf f) → checkRefusal f p fits ≡ checkRefusal f′ p fits
+  unfolding checkRefusal
+  check-number p fits l =
+      let k = l first in
+      let m = l second in
+      let n = h .states in
+      rw (
+        h .file,
+        h .file′,
+        lt-ltb (p .s) (statesOf f) k,
+        lt-ltb (p .t) (statesOf f) m,
+        lt-ltb (p .s) (statesOf f′) (omega arith),
+        lt-ltb (p .t) (statesOf f′) (omega arith),
+        inputs-same,
+      )
+
+  -- the answers
+  byte-same : (w : List ℕ) (b v : ℕ) → RightByte (settingOf f) w b v → RightByte (settingOf f′) w b v
+  byte-same w b v r = record { answer = r .answer; right = answers-same same w b (r .answer) (r .right); byte = r .byte }
+
+  entry-same : (w : Window) (k v : ℕ) → EntryOf f w k v → EntryOf f′ w k v
+  entry-same w k v r = byte-same (windowAt (outputsOf f′) (size w) k) (w .before) v (rw (h .outputs) at r)
+
+  judged-same : {p : LoopedPair} {answer : Bool} → Judges (Valid (settingOf f) p) answer → Judges (Valid (settingOf f′) p) answer
+  judged-same {p} = judges-map (valid-same same p) (valid-same (same-sym same) p)
+
+  says-padded : (o : Order) (v : Verdict) (before after : List ℕ) → Says (relationOf o) (settingOf f) v before after → Says (relationOf o) (settingOf f′) v before after
+  says-padded o = says-same (relationOf o) same fewer
+
+-- ---- from one name of a refusal to another
+
+count-map :
+    {k k′ n n′ : ℕ} {Q Q′ : ℕ → ℕ → Type 0} {before after : List ℕ} {r : CountResult} → k ≡ k′ → n ≡ n′ → ((j v : ℕ) → Q j v → Q′ j v) →
+    CountPromise k n Q before r after → CountPromise k′ n′ Q′ before r after
+count-map {n = n} {Q = Q} {Q′ = Q′} {before = before} {after = after} e d g p =
+    record {
+      result = rw (← e, ← d) (p .result);
+      bytes =
+          rw (← d)
+          (upon-map (λ j. after ≡ before) (Written Q n before after) (Written Q′ n before after) e (written-map (λ j v l. g j v)) (p .bytes));
+    }
+
+hosted-map : {k k′ r : ℕ} {Stays Given Given′ : Type 0} → k ≡ k′ → (Given → Given′) → Hosted k r Stays Given → Hosted k′ r Stays Given′
+hosted-map {Stays = Stays} {Given} {Given′} e g p =
+    record { number = p .number ∙ e; outcome = upon-map (λ j. Stays) Given Given′ e g (p .outcome) }
+
+bytes-map :
+    {n n′ : ℕ} {Q Q′ : ℕ → ℕ → Type 0} {before result after given : List ℕ} → n ≡ n′ → ((j v : ℕ) → Q j v → Q′ j v) →
+    BytesGiven n Q before result after given → BytesGiven n′ Q′ before result after given
+bytes-map d g p = rw (← d) (record { bytes = written-map (λ j v l. g j v) (p .bytes); fields = p .fields })
+
+-- ---- the outcomes
+
+module _ {f f′ : List ℕ} (h : PaddedFile f f′) where
+  table-size : (w : Window) → tableSize (outputsOf f) w ≡ tableSize (outputsOf f′) w
+  table-size w = ap (λ (o : ℕ). tableSize o w) (h .outputs)
+
+  table-number-in : (w : Window) (room : ℕ) (others : Bool) → tableRefusalIn f w room others ≡ tableRefusalIn f′ w room others
+  table-number-in w room others = rw (h .outputs) (table-number h w _)
+
+  pub same-outcomes : SameOutcomes f f′
+  same-outcomes =
+      record {
+        search = λ o before r r′ after after′ p q.
+            search.search-determined o f′ before r r′ after after′
+            (upon-map (λ k. RefusedSearch k r before after) (FoundVerdict (relationOf o) (settingOf f) r before after)
+            (FoundVerdict (relationOf o) (settingOf f′) r before after) (search-number h _)
+            (λ g. record { verdict = g .verdict; is = g .is; says = says-padded h o (g .verdict) before after (g .says) }) p)
+            q;
+        window = λ w received r r′ p q.
+            decoder.window-determined f′ w received r r′
+            (upon-map (λ k. r ≡ window.Refused k) (AnsweredRight f w received r) (AnsweredRight f′ w received r) (window-number h w received true)
+            (λ g. record { answer = g .answer; is = g .is; right = answers-same (same h) received (w .before) (meaning (g .answer)) (g .right) }) p)
+            q;
+        string = λ w received before r r′ after after′ p q.
+            decoder.string-determined f′ w received before r r′ after after′
+            (count-map (string-number h w received _) refl (λ k v. byte-same h (take (size w) (drop k received)) (w .before) v) p) q;
+        table = λ w before r r′ after after′ p q.
+            decoder.table-determined f′ w before r r′ after after′ (count-map (table-number-in w _ true) (table-size w) (entry-same h w) p) q;
+        check = λ p r r′ l a b.
+            checker.check-determined f′ p r r′
+            (upon-map (λ k. r ≡ check.Refused k) (CheckedRight f p r) (CheckedRight f′ p r) (check-number h p true l)
+            (λ g.
+            let j = judged-same h (record { yes′ = g .yes′; no′ = g .no′ }) in
+            record { answer = g .answer; is = g .is; yes′ = j .yes′; no′ = j .no′ })
+            a)
+            b;
+      }
+
+  pub same-from-C : SameOutcomesFromC f f′
+  same-from-C =
+      record {
+        search = λ before result r r′ after after′ given given′ p q.
+            host.search-determined f′ before result r r′ after after′ given given′
+            (hosted-map (search-number h _)
+            (λ g. record { verdict = g .verdict; says = says-padded h defaultOrder (g .verdict) before after (g .says); fields = g .fields }) p)
+            q;
+        window = λ w received result r r′ given given′ p q.
+            host.window-determined f′ w received result given given′ r r′
+            (hosted-map (window-number h w received _)
+            (λ g. record { byte = g .byte; right = byte-same h received (w .before) (g .byte) (g .right); fields = g .fields }) p)
+            q;
+        string = λ w received before result r r′ after after′ given given′ p q.
+            host.decode-determined f′ w received before result r r′ after after′ given given′
+            (hosted-map (string-number h w received _)
+            (bytes-map refl (λ k v. byte-same h (take (size w) (drop k received)) (w .before) v)) p)
+            q;
+        table = λ w before result r r′ after after′ given given′ p q.
+            host.table-determined f′ w before result r r′ after after′ given given′
+            (hosted-map (table-number-in w _ _) (bytes-map (table-size w) (entry-same h w)) p) q;
+        check = λ p result r r′ given given′ l a b.
+            host.check-determined f′ p result given given′ r r′
+            (hosted-map (check-number h p _ l)
+            (λ g. record { judgement = g .judgement; judges = judged-same h (g .judges); fields = g .fields }) a)
+            b;
+      }
+
+-- ---- all of them
+
+pub spare-states : SpareStates
+spare-states =
+    record {
+      works = λ f b a. works↔same-letter (machineOf f) b a;
+      checked = λ f p r u e c not-reachable.
+          let g : CheckedRight f p r = rw e at c in
+          no-only (g .answer) (g .is) (λ yes. not-reachable (g .yes′ yes .start u));
+      padded = λ f f′ h. same-outcomes h;
+      padded-from-C = λ f f′ h. same-from-C h;
+      none-spare = λ f z all.
+          let a = accepted f z in
+          let e = all-reachable (machineOf f) (total f a) (some-state f a) (λ s l. all s (below f s l)) in
+          let e′ = same-sym e in
+          record {
+            works = λ b c. (works-same e b c, works-same e′ b c);
+            least = λ o b c. (least-same e (relationOf o) b c, least-same e′ (relationOf o) b c);
+            answers = λ w b v. (answers-same e w b v, answers-same e′ w b v);
+            valid = λ p. (valid-same e p, valid-same e′ p);
+            first = λ p. (first-same e p, first-same e′ p);
+          };
+    }
+  where
+    below : (f : List ℕ) (s : ℕ) → s < machineOf f .states → s < statesOf f
+    below f s l = rw (states-are f) at l
