@@ -6,6 +6,7 @@
 
 typedef struct coder {
     size_t states, inputs, outputs;
+    uint16_t starts; /* the states in which a run starts, once they are found */
     uint8_t next[256], out[256]; /* state * 16 + input */
 } coder;
 
@@ -100,9 +101,9 @@ size_t plain_write(size_t states, size_t inputs, size_t outputs, const uint8_t *
 
 /* ---- decoding ---- */
 
-/* The states in which a run starts, those that some input string reaches from state 0: each state is followed
-   once. */
-static uint16_t start_states(const coder *c)
+/* Finds the states in which a run starts, those that some input string reaches from state 0: each state is
+   followed once. */
+static void find_starts(coder *c)
 {
     unsigned reached = 1, rest = 1;
 
@@ -116,14 +117,14 @@ static uint16_t start_states(const coder *c)
         rest |= next & ~reached;
         reached |= next;
     }
-    return (uint16_t)reached;
+    c->starts = (uint16_t)reached;
 }
 
 /* For each output letter and state, of the entries with that output: the states to which those of the state
    lead, the states from which they lead to it, and the input letters of those of the state. */
 typedef struct sets {
     uint16_t to[64][16], from[64][16], letters[64][16];
-    uint16_t all, starts;
+    uint16_t all;
 } sets;
 
 static void make_sets(const coder *c, sets *d)
@@ -132,7 +133,6 @@ static void make_sets(const coder *c, sets *d)
 
     memset(d, 0, sizeof *d);
     d->all = (uint16_t)((1u << c->states) - 1);
-    d->starts = start_states(c);
     for (s = 0; s < c->states; s++)
         for (i = 0; i < c->inputs; i++) {
             size_t t = c->next[16 * s + i], o = c->out[16 * s + i];
@@ -162,7 +162,7 @@ static uint8_t answer(unsigned letters)
 /* One window: forward to the present letter, backward from the end, and the entries between the two. */
 static uint8_t decode_window(const coder *c, const sets *d, const uint8_t *w, size_t before, size_t after)
 {
-    unsigned f = d->starts, g = d->all, found = 0;
+    unsigned f = c->starts, g = d->all, found = 0;
     const uint16_t *letters = d->letters[w[before]];
     size_t k;
 
@@ -200,6 +200,7 @@ size_t plain_decode(const uint8_t *file, size_t file_len, size_t before, size_t 
         return 11;
     if (!below(received, received_len, c.outputs))
         return 13;
+    find_starts(&c);
     make_sets(&c, &d);
     for (k = 0; k < n; k++)
         output[k] = decode_window(&c, &d, received + k, before, after);
@@ -286,13 +287,14 @@ size_t plain_table(const uint8_t *file, size_t file_len, size_t before, size_t a
         return 10;
     if (table_len < size)
         return 11;
+    find_starts(&c);
     make_sets(&c, &d);
     if (c.outputs == 1) {
         uint8_t w[273] = {0};
 
         *table = decode_window(&c, &d, w, before, after);
     } else {
-        fill(&c, &d, before, size, d.starts, table);
+        fill(&c, &d, before, size, c.starts, table);
     }
     *count = size;
     return 0;
@@ -309,13 +311,12 @@ static void depths(const coder *c, const uint8_t *near, const uint8_t *far, uint
     static uint16_t to[64][16];
     uint16_t rows[16], fresh[16];
     size_t s, t, e, i, level = 1;
-    uint16_t starts = start_states(c);
     int changed = 1;
 
     memset(to, 0, sizeof to);
     memset(depth, 0, 256);
     for (s = 0; s < c->states; s++) {
-        rows[s] = starts >> s & 1 ? starts : 0;
+        rows[s] = c->starts >> s & 1 ? c->starts : 0;
         for (i = 0; i < c->inputs; i++) {
             e = 16 * s + i;
             to[c->out[e]][far[e]] |= (uint16_t)(1u << near[e]);
@@ -550,7 +551,7 @@ static void find_pair(const coder *c, uint8_t *letters, plain_verdict *v)
     differing_costs(&m, after, whole);
     lower_costs(&m, LETTER + LEAD_IN, whole);
     for (p = 1; p < 16 * c->states; p++)
-        if ((m.d.starts >> p / 16 & m.d.starts >> p % 16 & 1)
+        if ((c->starts >> p / 16 & c->starts >> p % 16 & 1)
             && loop[p] + whole[p] / LETTER < loop[start] + whole[start] / LETTER)
             start = p;
     v->is_pair = 1;
@@ -585,6 +586,7 @@ size_t plain_search(const uint8_t *file, size_t file_len, uint8_t *letters, size
         return 11;
     for (x = 0; x < 256; x++)
         source[x] = (uint8_t)(x / 16);
+    find_starts(&c);
     depths(&c, c.next, source, back);
     depths(&c, source, c.next, forward);
     memset(worst, 0, sizeof worst);

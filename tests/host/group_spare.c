@@ -1,7 +1,7 @@
 /* Spare states, which no input string reaches from state 0 (document 02, 5/13): the start states
    found in two ways; coders padded with spare states, at the end and between their own, with which
-   every call gives what it gives without them; states that only the longest strings reach; pairs
-   that start in a spare state. */
+   every call that studies the coder, and a run from a reachable state, gives what it gives without
+   them; states that only the longest strings reach; pairs that start in a spare state. */
 #include "calls.h"
 #include "groups.h"
 #include "named_orders.h"
@@ -128,22 +128,47 @@ static void same_replies(const coder_file *f, const coder_file *g)
     }
 }
 
-/* A pair of the coder is judged alike; its start states moved. */
+/* A pair of the coder, made from the one that its search gives where it gives one, is judged alike;
+   its start states moved. */
 static void same_check(const coder_file *f, const coder_file *g, int between)
 {
-    arguments a = random_arguments(CALL_CHECK, f);
-    reply got = compare(&a);
+    arguments a;
+    reply got;
     size_t judged;
 
-    if (got.returned != 0)
-        return;
+    search(f);
+    a = random_arguments(CALL_CHECK, f);
+    got = compare(&a);
+    known_value("the number returned for a pair of the coder", got.returned, 0);
     judged = get_field(got.result, 0);
     a.file = g->bytes;
     a.file_len = g->len;
     a.pair.s = moved(a.pair.s, between);
     a.pair.t = moved(a.pair.t, between);
-    known_value("what is said of a pair of the padded coder", get_field(compare(&a).result, 0),
-                judged);
+    got = compare(&a);
+    known_value("the number returned for a pair of the padded coder", got.returned, 0);
+    known_value("what is said of a pair of the padded coder", get_field(got.result, 0), judged);
+}
+
+/* A run of the coder from a reachable state, moved: the same letters, and its end state moved. */
+static void same_run(const coder_file *f, const coder_file *g, int between)
+{
+    static uint8_t sent[LENT_ROOM];
+    coder c = coder_of_file(f->bytes);
+    arguments a = random_arguments(CALL_RUN, f);
+    size_t end;
+    reply got;
+
+    a.start = c.start[random_below(c.starts)];
+    got = compare(&a);
+    memcpy(sent, got.lent, a.bytes_len);
+    end = get_field(got.result, 1);
+    a.file = g->bytes;
+    a.file_len = g->len;
+    a.start = moved(a.start, between);
+    got = compare(&a);
+    known_value("the letters of the padded coder", (size_t)memcmp(sent, got.lent, a.bytes_len), 0);
+    known_value("the end state of the padded coder", get_field(got.result, 1), moved(end, between));
 }
 
 /* Every state of the padded coder that is not one of the coder's is spare, and so are those that
@@ -170,6 +195,7 @@ static void pad(const coder_file *f, size_t states, int between, const least *kn
         name_known_orders(&g, known, 0);
     round_trip(&g);
     same_check(f, &g, between);
+    same_run(f, &g, between);
     same_replies(f, &g);
     same_replies(f, &g);
 }
@@ -240,8 +266,8 @@ static void lines(size_t n, int way, size_t on)
 
 /* ---- pairs that start in a spare state ---- */
 
-/* Coder C with a second state in which both letters stay with output 0. Before there were reachable
-   states, each of these pairs was valid. */
+/* Coder C with a second state in which both letters stay with output 0. If a run might start in any
+   state, each pair from the states 0 and 1 would be valid. */
 static void spare_pairs(void)
 {
     static const uint8_t bytes[14] = {1, 0, 11, 2, 2, 1, 0, 0, 0, 0, 1, 0, 1, 0};

@@ -1,5 +1,5 @@
 -- Laws of the tests and chains of numbers that refusals are made of.
-use mathlib.Core.Path.{_≡_, refl, sym, _∙_, subst}
+use mathlib.Core.Path.{_≡_, refl, sym, ap, _∙_, subst}
 use mathlib.Core.Bool.{Bool, true, false, not, _&&_}
 use mathlib.Core.List.{List, [], _∷_}
 use mathlib.Core.Logic.{⊎-elim}
@@ -69,6 +69,14 @@ pub answer-refused : {A : Type 0} (k : ℕ) (r : ℕ → A) (d : A) → (k ≡ 0
 answer-refused zero r d h = absurd (h refl)
 answer-refused (suc k) r d h = refl
 
+-- what a call gives, under another name of the refusal and of the answer
+pub answer-same : {A : Type 0} {k k′ : ℕ} (r : ℕ → A) (d d′ : A) → k ≡ k′ → (k ≡ 0 → d ≡ d′) → answer k r d ≡ answer k′ r d′
+answer-same {k = k} r d d′ e h = go k h ∙ ap (λ j. answer j r d′) e
+  where
+    go : (j : ℕ) → (j ≡ 0 → d ≡ d′) → answer j r d ≡ answer j r d′
+    go zero g = g refl
+    go (suc j) g = refl
+
 -- what a call gives that returns with the refusal that it was told
 pub refused-answer :
     {A : Type 0} {r : ℕ} (k : ℕ) (g : ℕ → A) (d : A) → r ≡ k → (r ≡ 0 → ⊥) → g r ≡ answer k g d
@@ -85,12 +93,13 @@ upon-done (suc k) refused done e p = absurd (omega arith)
 
 -- a promise under another name of the refusal, where an answer gives more
 pub upon-map :
-    (refused : ℕ → Type 0) (done done′ : Type 0) {k k′ : ℕ} → k ≡ k′ → (done → done′) → upon k refused done → upon k′ refused done′
-upon-map refused done done′ {k} e f p = subst (λ j. upon j refused done′) e (go k p)
+    (refused : ℕ → Type 0) (done done′ : Type 0) {k k′ : ℕ} → k ≡ k′ → (k ≡ 0 → done → done′) → upon k refused done →
+    upon k′ refused done′
+upon-map refused done done′ {k} e f p = subst (λ j. upon j refused done′) e (go k f p)
   where
-    go : (j : ℕ) → upon j refused done → upon j refused done′
-    go zero p = f p
-    go (suc j) p = p
+    go : (j : ℕ) → (j ≡ 0 → done → done′) → upon j refused done → upon j refused done′
+    go zero g p = g refl p
+    go (suc j) g p = p
 
 -- a test of every number below n
 pub all-more : (n : ℕ) (p : ℕ → Bool) → p n ≡ true → allBelow n p ≡ true → allBelow (n + 1) p ≡ true

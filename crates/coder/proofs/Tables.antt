@@ -157,8 +157,8 @@ module _ (f : List ℕ) (a : Accepted f) where
   some-state = a .entries .limits .states-low
 
   -- a start state is a state, and whether a number is one can be decided
-  pub start-below : Bounded (settingOf f)
-  start-below = reachable-bounded (machineOf f) total some-state
+  pub file-bounded : Bounded (settingOf f)
+  file-bounded = reachable-bounded (machineOf f) total some-state
 
   pub dec-start : (s : ℕ) → Dec (settingOf f .Start s)
   dec-start = dec-reachable (machineOf f) total some-state

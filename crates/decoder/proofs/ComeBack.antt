@@ -1,4 +1,4 @@
--- Letters come back: what the coder writes on xs, decoded with a window that works, is xs from place b on.
+-- Letters come back: what the coder writes on xs from a reachable state, decoded with a window that works, is xs from place b on.
 use mathlib.Core.Path.{_≡_, refl}
 use mathlib.Core.Bool.{true}
 use mathlib.Core.List.{List}

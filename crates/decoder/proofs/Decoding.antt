@@ -10,8 +10,8 @@ use Rattle.coder.specs.File.{fileRefusal, outputsOf, machineOf, settingOf}
 use Rattle.coder.specs.Table.{coderOf, Sound}
 use Rattle.coder.specs.declared.inner.tables.Coder.{Coder}
 use Rattle.coder.proofs.Accepted.{accepted}
-use Rattle.coder.proofs.Tables.{total}
-use Rattle.starts.proofs.Computed.{foundWord, reachable-holds}
+use Rattle.coder.proofs.Tables.{total, some-state}
+use Rattle.starts.proofs.Computed.{inStepsWord, reachable-holds}
 use Rattle.setting.specs.Words.{settingOfCoder}
 use Rattle.setting.proofs.Same.{coder-sound, coder-machine}
 use Rattle.chains.specs.Chain.{Keys}
@@ -99,13 +99,13 @@ module _ {c : Coder} {f : List ℕ} (h : CoderOf c f) where
 
 -- the start states of a file's machine
 abbrev pub startsOf : List ℕ → ℕ
-startsOf f = foundWord (machineOf f) (machineOf f .states)
+startsOf f = inStepsWord (machineOf f) (machineOf f .states)
 
 pub starts-hold : (f : List ℕ) → fileRefusal f ≡ 0 → Holds (settingOf f .Start) (startsOf f)
 unfolding machineOf
 starts-hold f z =
     let a = accepted f z in
-    reachable-holds (machineOf f) (total f a) (a .entries .limits .states-low) (a .entries .limits .states-high)
+    reachable-holds (machineOf f) (total f a) (some-state f a) (a .entries .limits .states-high)
 
 -- the answer of an accepted file for the letters of a window
 pub file-right :

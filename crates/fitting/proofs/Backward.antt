@@ -19,7 +19,7 @@ pub record LeadsFrom (Q : Transitions) (w : List ℕ) (k from : ℕ) : Type 0 wh
   pub holds : Holds (Leading Q (λ s. s < 16) (drop k w)) from
 
 pub leads-none : {Q : Transitions} {w : List ℕ} (k : ℕ) → length w ≤ k → LeadsFrom Q w k 65535
-leads-none {Q} {w} k l = record { holds = rw (drop-none w k l) (holds-all 16 (omega arith)) }
+leads-none {Q} {w} k l = record { holds = rw (drop-none w k l) holds-all }
 
 module _ {Q : Transitions} {w : List ℕ} {k from : ℕ} (a : LeadsFrom Q w k from) where
   pub leads-more :

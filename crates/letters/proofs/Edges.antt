@@ -70,7 +70,7 @@ abbrev pub AllLetters : List ℕ → Type 0
 AllLetters all = (length all ≡ 16) × ((i : ℕ) → i < 16 → getD all i 0 ≡ 65535)
 
 all-has : (all : List ℕ) → AllLetters all → (i j : ℕ) → i < 16 → j < 16 → Has (getD all i 0) j
-all-has all a i j l m = rw (a .1 i l) (holds-all 16 (omega arith) .has j m)
+all-has all a i j l m = rw (a .1 i l) (holds-all .has j m)
 
 module _ {c : Coder} {next output : List ℕ} {inputs : ℕ} (arrays : CoderArrays c next output inputs) (all : List ℕ) (a : AllLetters all)
     (t : List ℕ) (step base k u v : ℕ) where

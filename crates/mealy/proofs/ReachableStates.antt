@@ -1,4 +1,4 @@
--- Reachable states: state 0 is one, no entry leaves them, they are states, and N - 1 steps find them all.
+-- Reachable states: state 0 is one, no entry leaves them, they are states, and N - 1 steps lead to them all.
 use mathlib.Core.Path.{_≡_, refl, ap, _∙_}
 use mathlib.Core.Logic.{_⊎_, _↔_, _≢_, inl, inr, Dec·and}
 use mathlib.Core.List.{List, [], _∷_, _++_}
@@ -25,10 +25,10 @@ letters-both n (x ∷ xs) ys p q = (p .0, letters-both n xs ys (p .1) q)
 
 -- ---- steps from state 0
 
--- what k steps find: state 0 at first; a step adds the states that an entry leads to from one that is found
-abbrev pub Found : Machine → ℕ → ℕ → Type 0
-Found M zero s = s ≡ 0
-Found M (suc k) s = Found M k s ⊎ Image (EntryTo M) (Found M k) s
+-- s is state 0 or within k steps of it: a step more adds the states that an entry leads to
+abbrev pub InSteps : Machine → ℕ → ℕ → Type 0
+InSteps M zero s = s ≡ 0
+InSteps M (suc k) s = InSteps M k s ⊎ Image (EntryTo M) (InSteps M k) s
 
 dec-image :
     (M : Machine) (P : ℕ → Type 0) → ((s : ℕ) → Dec (P s)) → ((s : ℕ) → P s → s < M .states) → (t : ℕ) → Dec (Image (EntryTo M) P t)
@@ -46,7 +46,7 @@ module _ (M : Machine) where
   pub reachable-zero : Reachable M 0
   reachable-zero = record { xs = []; letters = tt; ends = refl }
 
-  pub reachable-along : (s : ℕ) (ys : List ℕ) → Reachable M s → Letters (M .inputs) ys → Reachable M (end M s ys)
+  reachable-along : (s : ℕ) (ys : List ℕ) → Reachable M s → Letters (M .inputs) ys → Reachable M (end M s ys)
   reachable-along s ys r l =
       record {
         xs = r .xs ++ ys;
@@ -64,46 +64,46 @@ module _ (M : Machine) where
       let S : Setting = record { M = M; Start = P; Conflict = λ i j. i ≢ j } in
       rw (r .ends) at (end-start S closed 0 (r .xs) base (r .letters))
 
-  found-zero : (k : ℕ) → Found M k 0
-  found-zero zero = refl
-  found-zero (suc k) = inl (found-zero k)
+  in-steps-zero : (k : ℕ) → InSteps M k 0
+  in-steps-zero zero = refl
+  in-steps-zero (suc k) = inl (in-steps-zero k)
 
-  pub found-reachable : (k s : ℕ) → Found M k s → Reachable M s
-  found-reachable zero s h = rw h reachable-zero
-  found-reachable (suc k) s (inl h) = found-reachable k s h
-  found-reachable (suc k) s (inr h) =
-      rw (h .step .to) at (reachable-closed (h .s) (h .step .x) (found-reachable k (h .s) (h .from)) (h .step .letter))
+  pub in-steps-reachable : (k s : ℕ) → InSteps M k s → Reachable M s
+  in-steps-reachable zero s h = rw h reachable-zero
+  in-steps-reachable (suc k) s (inl h) = in-steps-reachable k s h
+  in-steps-reachable (suc k) s (inr h) =
+      rw (h .step .to) at (reachable-closed (h .s) (h .step .x) (in-steps-reachable k (h .s) (h .from)) (h .step .letter))
 
-  -- where one step finds nothing more, all are found
-  pub found-all : (K : ℕ) → ((s : ℕ) → Found M (suc K) s → Found M K s) → (s : ℕ) → Reachable M s → Found M K s
-  found-all K settled =
-      reachable-least (Found M K) (found-zero K)
+  -- where a step more adds none, these are all
+  pub in-steps-all : (K : ℕ) → ((s : ℕ) → InSteps M (suc K) s → InSteps M K s) → (s : ℕ) → Reachable M s → InSteps M K s
+  in-steps-all K settled =
+      reachable-least (InSteps M K) (in-steps-zero K)
       (λ s i h l. settled _ (inr (record { s = s; from = h; step = record { x = i; letter = l; to = refl } })))
 
-  found-more : (K k : ℕ) → K ≤ k → (s : ℕ) → Found M K s → Found M k s
-  found-more K k l s h = le-ind (λ k. Found M k s) h (λ k _ h. inl h) k l
+  in-steps-more : (K k : ℕ) → K ≤ k → (s : ℕ) → InSteps M K s → InSteps M k s
+  in-steps-more K k l s h = le-ind (λ k. InSteps M k s) h (λ k _ h. inl h) k l
 
   module _ (total : Total M) (some : 0 < M .states) where
     pub reachable-bounded : (s : ℕ) → Reachable M s → s < M .states
     reachable-bounded = reachable-least (λ s. s < M .states) some total
 
-    pub found-bounded : (k s : ℕ) → Found M k s → s < M .states
-    found-bounded k s h = reachable-bounded s (found-reachable k s h)
+    pub in-steps-bounded : (k s : ℕ) → InSteps M k s → s < M .states
+    in-steps-bounded k s h = reachable-bounded s (in-steps-reachable k s h)
 
-    dec-found : (k s : ℕ) → Dec (Found M k s)
-    dec-found zero s = ℕ-discrete s 0
-    dec-found (suc k) s = dec-either (dec-found k s) (dec-image M (Found M k) (dec-found k) (found-bounded k) s)
+    dec-in-steps : (k s : ℕ) → Dec (InSteps M k s)
+    dec-in-steps zero s = ℕ-discrete s 0
+    dec-in-steps (suc k) s = dec-either (dec-in-steps k s) (dec-image M (InSteps M k) (dec-in-steps k) (in-steps-bounded k) s)
 
-    reachable-found : (k : ℕ) → M .states ≤ k + 1 → (s : ℕ) → Reachable M s → Found M k s
-    reachable-found k l s r =
-        let z = stops-rising (M .states) (Found M) dec-found found-bounded (λ k s h. inl h) 0 refl in
-        found-more (z .0) k (omega arith) s (found-all (z .0) (z .2) s r)
+    reachable-in-steps : (k : ℕ) → M .states ≤ k + 1 → (s : ℕ) → Reachable M s → InSteps M k s
+    reachable-in-steps k l s r =
+        let z = stops-rising (M .states) (InSteps M) dec-in-steps in-steps-bounded (λ k s h. inl h) 0 refl in
+        in-steps-more (z .0) k (omega arith) s (in-steps-all (z .0) (z .2) s r)
 
-    -- N - 1 steps find the reachable states
-    pub found↔reachable : (k : ℕ) → M .states ≤ k + 1 → (s : ℕ) → Found M k s ↔ Reachable M s
-    found↔reachable k l s = (found-reachable k s, reachable-found k l s)
+    -- N - 1 steps lead to all reachable states
+    pub in-steps↔reachable : (k : ℕ) → M .states ≤ k + 1 → (s : ℕ) → InSteps M k s ↔ Reachable M s
+    in-steps↔reachable k l s = (in-steps-reachable k s, reachable-in-steps k l s)
 
     pub dec-reachable : (s : ℕ) → Dec (Reachable M s)
     dec-reachable s =
-        let f = found↔reachable (M .states) (omega arith) s in
-        map-dec (f .0) (f .1) (dec-found (M .states) s)
+        let f = in-steps↔reachable (M .states) (omega arith) s in
+        map-dec (f .0) (f .1) (dec-in-steps (M .states) s)

@@ -5,7 +5,7 @@ use mathlib.Core.List.{List, [], _∷_}
 use Prim.Native.Nat.{ℕ, zero, suc, _+_, _≤_, _<_}
 use native.Mathlib.Omega.{arith}
 use Rattle.mealy.specs.Machine.{Machine, outs, end, Letters, Total}
-use Rattle.mealy.specs.Reachable.{Reachable, Padded}
+use Rattle.mealy.specs.Reachable.{Reachable, WithSpare}
 use Rattle.mealy.specs.Setting.{Setting, Same, fromReachable, anyState}
 use Rattle.mealy.specs.Window.{EqualOutputs, Works}
 use Rattle.mealy.specs.Order.{Relation, Least}
@@ -33,7 +33,7 @@ letters-fewer n p r (suc m) (suc k) place l h = (h .0, letters-fewer n p r m k (
 -- ---- runs
 
 module _ {S T : Setting} (e : Same S T) where
-  pub letters-same : (xs : List ℕ) → Letters (S .M .inputs) xs → Letters (T .M .inputs) xs
+  letters-same : (xs : List ℕ) → Letters (S .M .inputs) xs → Letters (T .M .inputs) xs
   letters-same xs l = rw (e .inputs) at l
 
   pub outs-same : (s : ℕ) (xs : List ℕ) → S .Start s → Letters (S .M .inputs) xs → outs (S .M) s xs ≡ outs (T .M) s xs
@@ -147,10 +147,10 @@ module _ {S T : Setting} (e : Same S T) where
 -- ---- spare states
 
 -- other spare states, or other entries of these, leave the setting as it is
-module _ {M M′ : Machine} (h : Padded M M′) where
+module _ {M M′ : Machine} (h : WithSpare M M′) where
   -- from the states that M reaches M′ runs as M
-  as-padded : Same (fromReachable M) (record { M = M′; Start = Reachable M; Conflict = λ i j. i ≢ j })
-  as-padded =
+  as-with-spare : Same (fromReachable M) (record { M = M′; Start = Reachable M; Conflict = λ i j. i ≢ j })
+  as-with-spare =
       record {
         closed = reachable-closed M;
         inputs = h .inputs;
@@ -162,20 +162,20 @@ module _ {M M′ : Machine} (h : Padded M M′) where
         conflict′ = λ i j l m d. d;
       }
 
-  pub same-padded : Same (fromReachable M) (fromReachable M′)
-  same-padded =
+  pub same-with-spare : Same (fromReachable M) (fromReachable M′)
+  same-with-spare =
       record {
         closed = reachable-closed M;
         inputs = h .inputs;
         start = λ s r.
             record {
               xs = r .xs;
-              letters = letters-same as-padded (r .xs) (r .letters);
-              ends = sym (end-same as-padded 0 (r .xs) (reachable-zero M) (r .letters)) ∙ r .ends;
+              letters = letters-same as-with-spare (r .xs) (r .letters);
+              ends = sym (end-same as-with-spare 0 (r .xs) (reachable-zero M) (r .letters)) ∙ r .ends;
             };
         start′ = λ s r.
-            let l = letters-same (same-sym as-padded) (r .xs) (r .letters) in
-            record { xs = r .xs; letters = l; ends = end-same as-padded 0 (r .xs) (reachable-zero M) l ∙ r .ends };
+            let l = letters-same (same-sym as-with-spare) (r .xs) (r .letters) in
+            record { xs = r .xs; letters = l; ends = end-same as-with-spare 0 (r .xs) (reachable-zero M) l ∙ r .ends };
         next = h .next;
         out = h .out;
         conflict = λ i j l m d. d;

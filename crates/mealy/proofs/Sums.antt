@@ -98,11 +98,11 @@ stops (suc n) k m h = elim (decLe (m k) (m (suc k))) [
 
 -- ---- a falling chain of symmetric sets of pairs
 
-module _ (N : ℕ) (χ : ℕ → ℕ → ℕ → ℕ) (bit : (k s t : ℕ) → χ k s t ≤ 1) (fall : (k s t : ℕ) → χ (suc k) s t ≤ χ k s t)
+module _ (N : ℕ) (χ : ℕ → ℕ → ℕ → ℕ) (bits : (k s t : ℕ) → χ k s t ≤ 1) (fall : (k s t : ℕ) → χ (suc k) s t ≤ χ k s t)
     (swap : (k s t : ℕ) → χ k s t ≤ χ k t s) where
   pub stops-falling : (K : ℕ) × (K ≤ pairs N) × ((s t : ℕ) → s < N → t < N → χ K s t ≤ χ (suc K) s t)
   stops-falling =
-      let r = stops (sum N suc) 0 (λ k. triangle N (χ k)) (triangle-bits N (χ 0) (bit 0)) in (
+      let r = stops (sum N suc) 0 (λ k. triangle N (χ k)) (triangle-bits N (χ 0) (bits 0)) in (
         r .0,
         omega (arith, sum-pairs N),
         λ s t p q. elim (decLe s t) [

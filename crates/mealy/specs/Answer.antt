@@ -7,7 +7,7 @@ use lib.ListN.{length, getD}
 use Rattle.mealy.specs.Machine.{outs, Letters}
 use Rattle.mealy.specs.Setting.{Setting}
 
--- Document 01's term "fits" ("Decoding", first sentence): some run with the outputs w has the letter x at place b.
+-- Document 01's term "fits" ("Decoding", first sentence): some run from a start state with the outputs w has the letter x at place b.
 pub record Fits (S : Setting) (w : List ℕ) (b x : ℕ) : Type 0 where
   pub s : ℕ
   pub xs : List ℕ
@@ -28,7 +28,7 @@ byteOf (letter x) = x
 byteOf none = 254
 byteOf several = 255
 
--- no run gives the outputs w
+-- no run from a start state gives the outputs w
 abbrev pub NoRun : Setting → List ℕ → Type 0
 NoRun S w = (s : ℕ) (xs : List ℕ) → S .Start s → Letters (S .M .inputs) xs → outs (S .M) s xs ≡ w → ⊥
 

@@ -1,4 +1,5 @@
--- What the contracts cite: machines, runs, reachable states, windows, the decoder's answer, the index of a window, the product machine, looped pairs, walks.
+-- What the contracts cite: machines, runs, reachable states, windows, the decoder's answer, the index of a window, the product machine,
+-- looped pairs, walks.
 pub mod Machine
 pub mod Word
 pub mod Reachable

@@ -1,4 +1,4 @@
--- The states in which a run may start.
+-- Reachable states, entries from state to state, and machines that differ in spare states alone.
 use Prim.Native.Nat.{ℕ, _<_}
 use mathlib.Core.Path.{_≡_}
 use mathlib.Core.List.{List}
@@ -17,9 +17,9 @@ pub record EntryTo (M : Machine) (s t : ℕ) : Type 0 where
   pub letter : x < M .inputs
   pub to : M .next s x ≡ t
 
--- Spare states (document 02, 5/13, first sentence): M′ has the entries of M at every state that M reaches, and any at the other states,
--- of which it may have more or fewer.
-pub record Padded (M M′ : Machine) : Type 0 where
+-- Spare states (document 02, 5/13, first sentence): M′ has the entries of M at every state that M reaches. At the other states it may have
+-- any, and it may have more or fewer of them.
+pub record WithSpare (M M′ : Machine) : Type 0 where
   pub inputs : M .inputs ≡ M′ .inputs
   pub next : (s i : ℕ) → Reachable M s → i < M .inputs → M .next s i ≡ M′ .next s i
   pub out : (s i : ℕ) → Reachable M s → i < M .inputs → M .out s i ≡ M′ .out s i

@@ -16,7 +16,8 @@ pub record EqualOutputs (M : Machine) (n s t : ℕ) (xs ys : List ℕ) : Type 0 
   pub outputs : outs M s xs ≡ outs M t ys
 
 -- Document 01's term "works" ("Coders and runs", the paragraph on windows), for a window with b letters in front of the present one and
--- a behind it: runs of its length that agree in output throughout never conflict at the present place, b letters after their start.
+-- a behind it: runs of its length from start states that agree in output throughout never conflict at the present place, b letters after
+-- their start.
 abbrev pub Works : Setting → ℕ → ℕ → Type 0
 Works S b a =
     (s t : ℕ) (xs ys : List ℕ) → S .Start s → S .Start t → EqualOutputs (S .M) (b + 1 + a) s t xs ys →

@@ -14,7 +14,7 @@ use Rattle.coder.specs.declared.Header.the-variants.{Refused, Counts}
 use Rattle.coder.proofs.FileNumbers.{file-number}
 use Rattle.coder.proofs.Refusals.{upon-refused, upon-done}
 use Rattle.coder.proofs.Accepted.{accepted}
-use Rattle.coder.proofs.Tables.{start-below}
+use Rattle.coder.proofs.Tables.{file-bounded}
 use Rattle.product.proofs.Depths.{pairs-high}
 use Rattle.values.specs.declared.Window.{Window}
 use Rattle.values.specs.declared.LoopedPair.{LoopedPair}
@@ -168,7 +168,7 @@ module _ (f before after : List ℕ) (ok : fileRefusal f ≡ 0) (long : wanted �
       let g = pair-found p e d in
       let l = accepted f ok .entries .limits in
       let z : r ≡ Found (NoDecoder q) = cc in
-      text-short (settingOf f) (pairOf q after) (start-below f (accepted f ok)) (rw states-are (l .states-high)) (rw inputs-are (l .inputs-high)) (g .first .valid)
+      text-short (settingOf f) (pairOf q after) (file-bounded f (accepted f ok)) (rw states-are (l .states-high)) (rw inputs-are (l .inputs-high)) (g .first .valid)
       (rw states-are (pair-short defaultOrder f before q after (rw z at p)))
 
   pub pair-asked :

@@ -17,7 +17,7 @@ use Rattle.mealy.proofs.ReachableStates.{reachable-closed}
 use Rattle.first_pair.proofs.Bounds.{first-short}
 use Rattle.coder.specs.File.{statesOf, machineOf, settingOf}
 use Rattle.coder.proofs.Accepted.{accepted}
-use Rattle.coder.proofs.Tables.{start-below}
+use Rattle.coder.proofs.Tables.{file-bounded}
 use Rattle.values.specs.Window.{window}
 use Rattle.values.specs.Pair.{pairOf, loopedPair}
 use Rattle.values.specs.Order.{relationOf}
@@ -126,7 +126,7 @@ unfolding machineOf
 pair-short o f before p after h =
     let s = found o f before (NoDecoder p) after h in
     let a = search-accepted f (leb wanted (length before)) (s .accepted) .0 in
-    first-short (settingOf f) (reachable-closed (machineOf f)) (start-below f (accepted f a)) (pairOf p after) (s .says .first)
+    first-short (settingOf f) (reachable-closed (machineOf f)) (file-bounded f (accepted f a)) (pairOf p after) (s .says .first)
 
 -- ---- two outcomes of one call
 

@@ -1,4 +1,4 @@
--- The two words that are written as numbers, by computed tests: all numbers below n, and all below 16 but one.
+-- The two words that are written as numbers, by computed tests: all numbers below 16, and all but one.
 use mathlib.Core.Path.{_≡_, refl}
 use mathlib.Core.List.{List}
 use mathlib.Core.Bool.{Bool, true, _&&_, cond}
@@ -14,32 +14,22 @@ use Rattle.coder.proofs.Refusals.{both-true, all-at}
 use Rattle.coder.proofs.Fill.{Filled}
 use Rattle.setting.specs.Words.{ConflictsOf}
 
--- bit x of u is set exactly where the test says so
-abbrev bitIs : ℕ → ℕ → Bool → Bool
-bitIs u x t = eqb (u / 2 ^ x % 2) (cond t 1 0)
-
--- ---- all numbers below n
+-- ---- all numbers below 16
 
 abbrev allTest : ℕ → Bool
-allTest n = ltb (2 ^ n - 1) 65536 && allBelow 16 (λ x. bitIs (2 ^ n - 1) x (ltb x n))
+allTest x = eqb (65535 / 2 ^ x % 2) 1
 
-all-tested : allBelow 17 allTest ≡ true
+all-tested : allBelow 16 allTest ≡ true
 unfolding allBelow
 all-tested = refl
 
-pub holds-all : (n : ℕ) → n ≤ 16 → Holds (λ x. x < n) (2 ^ n - 1)
-holds-all n l =
-    let t = both-true _ _ (all-at 17 allTest all-tested n (omega arith)) in
-    let bit : (x : ℕ) → x < 16 → (2 ^ n - 1) / 2 ^ x % 2 ≡ cond (ltb x n) 1 0 =
-    λ x m. eqb-true _ _ (all-at 16 (λ x. bitIs (2 ^ n - 1) x (ltb x n)) (t .1) x m) in
+pub holds-all : Holds (λ x. x < 16) 65535
+holds-all =
     record {
-      bound = ltb-true _ _ (t .0);
-      below = λ x p. omega arith;
-      has = λ x p. rw (lt-ltb x n p) at (bit x (omega arith));
-      only = λ x m h. elim (decLt x n) [
-        | yes p ↦ p
-        | no p ↦ absurd (let z : (2 ^ n - 1) / 2 ^ x % 2 ≡ 0 = rw (le-ltb x n (omega arith)) at (bit x m) in omega arith)
-      ];
+      bound = omega arith;
+      below = λ x p. p;
+      has = λ x p. eqb-true _ _ (all-at 16 allTest all-tested x p);
+      only = λ x m h. m;
     }
 
 -- ---- all numbers below 16 but i

@@ -14,7 +14,8 @@ use Rattle.mealy.specs.Word.{Has, Holds}
 use Rattle.mealy.proofs.Words.{holds-map, holds-none, holds-one, holds-union}
 use Rattle.mealy.proofs.Members.{holds-member}
 use Rattle.mealy.proofs.OneMore.{next-below, holds-more}
-use Rattle.mealy.proofs.ReachableStates.{Found, found-bounded, found↔reachable}
+use Rattle.mealy.proofs.ReachableStates.{InSteps, in-steps-bounded}
+use Rattle.starts.proofs.Closure.{step-more, last-step}
 
 -- the states that the entries of state s on its first n letters lead to
 unfoldable pub entriesWord : Machine → ℕ → ℕ → ℕ
@@ -22,14 +23,14 @@ entriesWord M s zero = 0
 entriesWord M s (suc n) = bitOr (entriesWord M s n) (2 ^ M .next s n)
 
 -- those of the first n states, of such as are in the set u
-unfoldable pub stepWord : Machine → ℕ → ℕ → ℕ
-stepWord M u zero = 0
-stepWord M u (suc n) = bitOr (stepWord M u n) (cond (eqb (u / 2 ^ n % 2) 1) (entriesWord M n (M .inputs)) 0)
+unfoldable pub imageWord : Machine → ℕ → ℕ → ℕ
+imageWord M u zero = 0
+imageWord M u (suc n) = bitOr (imageWord M u n) (cond (eqb (u / 2 ^ n % 2) 1) (entriesWord M n (M .inputs)) 0)
 
--- what k steps find from state 0
-unfoldable pub foundWord : Machine → ℕ → ℕ
-foundWord M zero = 1
-foundWord M (suc k) = let u = foundWord M k in bitOr u (stepWord M u (M .states))
+-- the states within k steps of state 0
+unfoldable pub inStepsWord : Machine → ℕ → ℕ
+inStepsWord M zero = 1
+inStepsWord M (suc k) = let u = inStepsWord M k in bitOr u (imageWord M u (M .states))
 
 module _ (M : Machine) (total : Total M) (some : 0 < M .states) (few : M .states ≤ 16) where
   entries-hold :
@@ -53,23 +54,23 @@ module _ (M : Machine) (total : Total M) (some : 0 < M .states) (few : M .states
         | no e ↦ rw (ne-eqb _ _ e) (holds-none (λ t h. e (h .0)))
       ]
 
-  step-holds : (u n : ℕ) → n ≤ M .states → Holds (Image (λ s t. Has u s × EntryTo M s t) (λ s. s < n)) (stepWord M u n)
-  unfolding stepWord
-  step-holds u zero m = holds-none (λ t h. let z = h .from in omega arith)
-  step-holds u (suc n) m = holds-more (next-below (omega arith)) (step-holds u n (omega arith)) (state-holds u n (omega arith))
+  image-holds : (u n : ℕ) → n ≤ M .states → Holds (Image (λ s t. Has u s × EntryTo M s t) (λ s. s < n)) (imageWord M u n)
+  unfolding imageWord
+  image-holds u zero m = holds-none (λ t h. let z = h .from in omega arith)
+  image-holds u (suc n) m = holds-more (next-below (omega arith)) (image-holds u n (omega arith)) (state-holds u n (omega arith))
 
-  found-holds : (k : ℕ) → Holds (Found M k) (foundWord M k)
-  unfolding foundWord
-  found-holds zero = holds-one 0 (omega arith) refl (λ s e. e)
-  found-holds (suc k) =
-      let a = found-holds k in
-      holds-union a
-      (holds-map
-      (λ t h. record { s = h .s; from = holds-member a (h .s) (h .step .0); step = h .step .1 })
-      (λ t h. record { s = h .s; from = found-bounded M total some k (h .s) (h .from); step = (a .has (h .s) (h .from), h .step) })
-      (step-holds (foundWord M k) (M .states) (omega arith)))
+  in-steps-hold : (k : ℕ) → Holds (InSteps M k) (inStepsWord M k)
+  unfolding inStepsWord
+  in-steps-hold zero = holds-one 0 (omega arith) refl (λ s e. e)
+  in-steps-hold (suc k) =
+      let a = in-steps-hold k in
+      let u = inStepsWord M k in
+      step-more k a
+      (holds-map (λ t h. record { s = h .s; from = h .step .0; step = h .step .1 })
+      (λ t h.
+      let l = in-steps-bounded M total some k (h .s) (holds-member a (h .s) (h .from)) in
+      record { s = h .s; from = l; step = (h .from, h .step) })
+      (image-holds u (M .states) (omega arith)))
 
-  pub reachable-holds : Holds (Reachable M) (foundWord M (M .states))
-  reachable-holds =
-      let f = found↔reachable M total some (M .states) (omega arith) in
-      holds-map (λ s. f s .0) (λ s. f s .1) (found-holds (M .states))
+  pub reachable-holds : Holds (Reachable M) (inStepsWord M (M .states))
+  reachable-holds = last-step total some (M .states) (omega arith) (in-steps-hold (M .states))

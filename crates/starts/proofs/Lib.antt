@@ -1,3 +1,4 @@
 -- Laws on the steps from state to state, and the reachable states computed.
 pub mod Steps
+pub mod Closure
 pub mod Computed

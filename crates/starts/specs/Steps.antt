@@ -1,4 +1,4 @@
--- Steps from state to state, on any input letter, as words; and what they reach.
+-- Steps from state to state, on any input letter, as words; and the closure of state 0 under them.
 use Prim.Native.Nat.{ℕ, _<_}
 use mathlib.Core.Path.{_≡_}
 use mathlib.Core.List.{List}
@@ -14,6 +14,6 @@ pub record StepsOf (M : Machine) (words : List ℕ) : Type 0 where
   pub from : (s t : ℕ) → s < M .states → EntryTo M s t → Leads words 0 s t
 
 -- the reachable states, for every machine of n states whose steps these are
-abbrev pub ReachedBy : List ℕ → ℕ → ℕ → Type 0
-ReachedBy words n r =
+abbrev pub ClosureOf : List ℕ → ℕ → ℕ → Type 0
+ClosureOf words n r =
     (M : Machine) → M .states ≡ n → 0 < M .states → Total M → StepsOf M words → Holds (Reachable M) r

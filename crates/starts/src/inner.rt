@@ -3,7 +3,7 @@ ghost use Rattle.mealy.specs.Word.{Holds};
 ghost use Rattle.coder.specs.Table.{machineOfCoder, Sound};
 ghost use Rattle.fitting.specs.Tables.{Words};
 ghost use Rattle.setting.specs.Words.{settingOfCoder};
-ghost use Rattle.starts.specs.Steps.{StepsOf, ReachedBy};
+ghost use Rattle.starts.specs.Steps.{StepsOf, ClosureOf};
 use chains::inner::parts;
 use coder::inner::tables::Coder;
 use fitting::inner::sets::image;
@@ -15,16 +15,16 @@ fn steps(c: Coder) -> [u16; 1024]
     ensures { λ r. ⌜ StepsOf (machineOfCoder c) r ⌝ }
 {
     let own = parts(false);
-    let none = [0u8; 256];
+    let zeros = [0u8; 256];
     let states = c.states;
     let inputs = c.inputs;
-    by_output(&own, &c.next, &none, states, inputs)
+    by_output(&own, &c.next, &zeros, states, inputs)
 }
 
-// State 0 and all that these steps find from it. N states are found in N - 1 steps at most.
-fn reached(words: &[u16; 1024], states: usize) -> u16
+// State 0 and all states that these steps lead to from it. With N states this takes N - 1 steps at most.
+fn closure(words: &[u16; 1024], states: usize) -> u16
     requires { ⌜ Words (now words) ⌝ }
-    ensures { λ r. ⌜ ReachedBy (now (words .entry)) states r ⌝ }
+    ensures { λ r. ⌜ ClosureOf (now (words .entry)) states r ⌝ }
 {
     let mut set = 1u16;
     let mut k = 1;
@@ -45,5 +45,5 @@ pub fn start_states(c: Coder) -> u16
     ensures { λ r. ⌜ Holds (settingOfCoder c .Start) r ⌝ }
 {
     let words = steps(c);
-    reached(&words, c.states)
+    closure(&words, c.states)
 }

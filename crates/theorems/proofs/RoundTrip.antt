@@ -17,7 +17,7 @@ use Rattle.coder.specs.File.{statesOf, inputsOf, outputsOf, machineOf, settingO
 use Rattle.running.specs.Run.{runRefusal, runRefusalIn, RunPromise}
 use Rattle.running.specs.declared.RunResult.{RunResult}
 use Rattle.coder.proofs.Accepted.{accepted}
-use Rattle.coder.proofs.Tables.{output-below, start-below}
+use Rattle.coder.proofs.Tables.{output-below, file-bounded}
 use Rattle.product.proofs.Depths.{pairs-high}
 use Rattle.values.specs.declared.Window.{Window}
 use Rattle.values.specs.declared.CountResult.the-variants.{Done}
@@ -46,11 +46,11 @@ states-are f = refl
 
 module _ (f : List ℕ) (s : ℕ) (xs : List ℕ) (coded : Coded f s xs) where
   -- the run starts where the runs of a window may start
-  pub is-start : settingOf f .Start s
+  is-start : settingOf f .Start s
   is-start = coded .start
 
   start-low : s < statesOf f
-  start-low = rw (states-are f) at (start-below f (accepted f (coded .file)) s is-start)
+  start-low = rw (states-are f) at (file-bounded f (accepted f (coded .file)) s is-start)
 
   pub not-refused : (before : List ℕ) → length xs ≤ length before → runRefusalIn f s xs before ≡ 0
   unfolding runRefusal

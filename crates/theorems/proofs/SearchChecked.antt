@@ -11,7 +11,7 @@ use Rattle.mealy.specs.LoopedPair.{letters, first, second}
 use Rattle.mealy.proofs.PairBytes.{valid-letters, valid-cut}
 use Rattle.coder.specs.File.{statesOf, inputsOf, machineOf, settingOf}
 use Rattle.coder.proofs.Accepted.{accepted}
-use Rattle.coder.proofs.Tables.{start-below}
+use Rattle.coder.proofs.Tables.{file-bounded}
 use Rattle.values.specs.Pair.{pairOf}
 use Rattle.values.specs.declared.LoopedPair.{LoopedPair}
 use Rattle.values.specs.declared.Order.{Order}
@@ -45,7 +45,7 @@ search-checked o f before p after r s c =
     let n = 2 * letters (pairOf p after) in
     let long = length-take-le n after (v .held) in
     let file = search-accepted f (leb wanted (length before)) (h .accepted) .0 in
-    let low = start-below f (accepted f file) in
+    let low = file-bounded f (accepted f file) in
     let fine : checkRefusal f (pairOf p (take n after)) true ≡ 0 =
     rw (
       file,

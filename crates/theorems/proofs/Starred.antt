@@ -52,7 +52,7 @@ use Rattle.decoder.specs.declared.WindowResult.the-variants.{Answered}
 use Rattle.decoder.proofs.Accepting.{window-accepted}
 use Rattle.decoder.proofs.Writing.{written-bytes, written-unique}
 use Rattle.decoder.proofs.Decoding.{startsOf, starts-hold, file-right}
-use Rattle.starts.proofs.Computed.{entriesWord, stepWord, foundWord}
+use Rattle.starts.proofs.Computed.{entriesWord, imageWord, inStepsWord}
 use Rattle.placing.specs.Placed.{withFront}
 use Rattle.writer.proofs.Writing.{write-given}
 use Rattle.search.specs.Search.{searchRefusal, wanted, Says, FoundVerdict, SearchPromise}
@@ -283,7 +283,7 @@ cases-hold (c ∷ cs) e =
     (z, claims-hold (c .file) z (c .claims) (u .0), cases-hold cs (u .1))
 
 passed : testCases starred ≡ true
-unfolding test entriesWord stepWord foundWord allStarts bigEndian checkRefusal windowRefusal tableRefusal runRefusal sidesRefusal leastTest laterOrFails worksTest agree allWords noEarlier firstTest validTest closesTest differentTest allBelow fileRefusal entriesRefusal inRange within entryInRange machineOf entryOf coderOf table tableAt decoded pass added add contribution gather unionOf answerOf leadingZeros hasKey isEntry over windowAt
+unfolding test entriesWord imageWord inStepsWord allStarts bigEndian checkRefusal windowRefusal tableRefusal runRefusal sidesRefusal leastTest laterOrFails worksTest agree allWords noEarlier firstTest validTest closesTest differentTest allBelow fileRefusal entriesRefusal inRange within entryInRange machineOf entryOf coderOf table tableAt decoded pass added add contribution gather unionOf answerOf leadingZeros hasKey isEntry over windowAt
 passed = refl
 
 -- every starred case: its file is accepted, and all that is claimed of it holds

@@ -134,14 +134,14 @@ module _ (M : Machine) (starts b a : ℕ) where
       allStarts starts (λ s. allStarts starts (λ t.
       allWords (M .inputs) (b + 1 + a) (λ xs. allWords (M .inputs) (b + 1 + a) (λ ys. agree s t xs ys))))
 
-  module _ (states : Holds (Reachable M) starts) where
+  module _ (held : Holds (Reachable M) starts) where
     pub works-test : worksTest ≡ true → Works (fromReachable M) b a
     unfolding worksTest agree
     works-test e = works↔same-letter M b a .1 (λ s t xs ys p q g h k l f.
         let seconds : ℕ → ℕ → List ℕ → Bool = λ s t xs. allWords (M .inputs) (b + 1 + a) (λ ys. agree s t xs ys) in
         let runs : ℕ → ℕ → Bool = λ s t. allWords (M .inputs) (b + 1 + a) (λ xs. seconds s t xs) in
-        let x = starts-at states (λ s. allStarts starts (λ t. runs s t)) e s p in
-        let y = starts-at states (λ t. runs s t) x t q in
+        let x = starts-at held (λ s. allStarts starts (λ t. runs s t)) e s p in
+        let y = starts-at held (λ t. runs s t) x t q in
         let z = words-at (M .inputs) (b + 1 + a) (λ xs. seconds s t xs) y xs g k in
         let w = words-at (M .inputs) (b + 1 + a) (λ ys. agree s t xs ys) z ys h l in
         let same : sameList (outs M s xs) (outs M t ys) ≡ true = rw f (list-same (outs M t ys)) in
@@ -152,8 +152,8 @@ module _ (M : Machine) (starts b a : ℕ) where
     fails-test e f =
         let seconds : ℕ → ℕ → List ℕ → Bool = λ s t xs. allWords (M .inputs) (b + 1 + a) (λ ys. agree s t xs ys) in
         let runs : ℕ → ℕ → Bool = λ s t. allWords (M .inputs) (b + 1 + a) (λ xs. seconds s t xs) in
-        let p = starts-false states (λ s. allStarts starts (λ t. runs s t)) e in
-        let q = starts-false states (λ t. runs (p .0) t) (p .2) in
+        let p = starts-false held (λ s. allStarts starts (λ t. runs s t)) e in
+        let q = starts-false held (λ t. runs (p .0) t) (p .2) in
         let x = words-false (M .inputs) (b + 1 + a) (λ xs. seconds (p .0) (q .0) xs) (q .2) in
         let y = words-false (M .inputs) (b + 1 + a) (λ ys. agree (p .0) (q .0) (x .xs) ys) (x .fails) in
         let d = differs (sameList (outs M (p .0) (x .xs)) (outs M (q .0) (y .xs))) (eqb (getD (x .xs) b 0) (getD (y .xs) b 0)) (y .fails) in
@@ -176,26 +176,26 @@ module _ (M : Machine) (starts : ℕ) (o : Order) (b a : ℕ) where
 
   later-or-fails : Holds (Reachable M) starts → (b′ a′ : ℕ) → laterOrFails b′ a′ ≡ true → Works (fromReachable M) b′ a′ → relationOf o b a b′ a′
   unfolding laterOrFails
-  later-or-fails states b′ a′ e f = go (noLater o (window b a) (window b′ a′)) refl e
+  later-or-fails held b′ a′ e f = go (noLater o (window b a) (window b′ a′)) refl e
     where
       go :
           (t : Bool) → noLater o (window b a) (window b′ a′) ≡ t → cond t true (not (worksTest M starts b′ a′)) ≡ true →
           relationOf o b a b′ a′
       go true z h = no-later o (window b a) (window b′ a′) .0 z
-      go false z h = absurd (fails-test M starts b′ a′ states (not-true _ h) f)
+      go false z h = absurd (fails-test M starts b′ a′ held (not-true _ h) f)
 
   pub least-test : Total M → 0 < M .states → Holds (Reachable M) starts → leastTest ≡ true → Least (relationOf o) (fromReachable M) b a
   unfolding leastTest
-  least-test total some states e =
+  least-test total some held e =
       let n = pairs (M .states) in
       let S = fromReachable M in
       let settled : (d : Direction) → Settled S d n = λ d. settled-by S (dec-reachable M total some) (reachable-bounded M total some) d n (omega arith) in
       let row : ℕ → Bool = λ k. allBelow (n + 1) (λ a′. laterOrFails (n - k) a′) in
       let z = both-true (worksTest M starts b a) (allBelow (n + 1) row) e in
-      least-within (is-order o) S (reachable-closed M) n (settled forward) n (settled back) b a (works-test M starts b a states (z .0)) (λ b′ a′ l m f.
+      least-within (is-order o) S (reachable-closed M) n (settled forward) n (settled back) b a (works-test M starts b a held (z .0)) (λ b′ a′ l m f.
       let r = all-at (n + 1) row (z .1) (n - b′) (omega arith) in
       let same : n - (n - b′) ≡ b′ = omega arith in
-      later-or-fails states b′ a′ (rw same at (all-at (n + 1) (λ a′. laterOrFails (n - (n - b′)) a′) r a′ (omega arith))) f)
+      later-or-fails held b′ a′ (rw same at (all-at (n + 1) (λ a′. laterOrFails (n - (n - b′)) a′) r a′ (omega arith))) f)
 
 -- ---- looped pairs
 
@@ -232,7 +232,7 @@ module _ (M : Machine) (starts : ℕ) (p : LoopedPair) where
 
   pub valid-test : Holds (Reachable M) starts → validTest ≡ true → Valid (fromReachable M) p
   unfolding validTest
-  valid-test states e =
+  valid-test held e =
       let c = (closesTest first && closesTest second) in
       let d = not (eqb (letterAt p first (mark p)) (letterAt p second (mark p))) in
       let o = sameList (outs M (p .s) (runInputs p first)) (outs M (p .t) (runInputs p second)) in
@@ -247,7 +247,7 @@ module _ (M : Machine) (starts : ℕ) (p : LoopedPair) where
       let run : (r : Run) → ClosedRun r = λ r. elim r [ first ↦ closed-run first (w .0) | second ↦ closed-run second (w .1) ] in
       record {
         held = leb-true _ _ (x .0);
-        start = λ r. test-start states (startOf p r) (run r .start);
+        start = λ r. test-start held (startOf p r) (run r .start);
         below = λ r. run r .below;
         back-letter = ltb-true _ _ (y .0);
         forward-letter = ltb-true _ _ (z .0);
@@ -260,9 +260,9 @@ module _ (M : Machine) (starts : ℕ) (p : LoopedPair) where
   -- and the other way round
   runs-closed : Holds (Reachable M) starts → Valid (fromReachable M) p → (r : Run) → closesTest r ≡ true
   unfolding closesTest
-  runs-closed states v r =
+  runs-closed held v r =
       rw (
-        start-test states (startOf p r) (v .start r),
+        start-test held (startOf p r) (v .start r),
         letters-test (M .inputs) (runInputs p r) (v .below r),
         eq-eqb (end M (startOf p r) (lettersFrom p r 0 (p .back-loop))) (startOf p r) (v .back-closed r),
         eq-eqb (end M (startOf p r) (runInputs p r)) (end M (startOf p r) (lettersFrom p r 0 (unlooped p))) (v .forward-closed r),
@@ -270,7 +270,7 @@ module _ (M : Machine) (starts : ℕ) (p : LoopedPair) where
 
   pub test-valid : Holds (Reachable M) starts → Valid (fromReachable M) p → validTest ≡ true
   unfolding validTest
-  test-valid states v =
+  test-valid held v =
       let same : sameList (outs M (p .s) (runInputs p first)) (outs M (p .t) (runInputs p second)) ≡ true =
       rw (v .outputs) (list-same (outs M (p .t) (runInputs p second))) in
       rw (
@@ -279,8 +279,8 @@ module _ (M : Machine) (starts : ℕ) (p : LoopedPair) where
         lt-ltb 0 (p .forward-loop) (v .forward-letter),
         same,
         ne-eqb (letterAt p first (mark p)) (letterAt p second (mark p)) (v .conflict),
-        runs-closed states v first,
-        runs-closed states v second,
+        runs-closed held v first,
+        runs-closed held v second,
       )
 
 -- ---- the first pair, of three letters
@@ -308,7 +308,7 @@ module _ (M : Machine) (starts s t : ℕ) (bytes : List ℕ) where
       validTest M starts (pair s t bytes) &&
       (eqb (length bytes) 6 && allStarts starts (λ s′. allStarts starts (λ t′. allWords (M .inputs) 6 (noEarlier s′ t′))))
 
-  module _ (states : Holds (Reachable M) starts) (e : firstTest ≡ true) where
+  module _ (held : Holds (Reachable M) starts) (e : firstTest ≡ true) where
     record Parts : Type 0 where
       valid : validTest M starts (pair s t bytes) ≡ true
       size : length bytes ≡ 6
@@ -331,10 +331,10 @@ module _ (M : Machine) (starts s t : ℕ) (bytes : List ℕ) where
         Lexicographic (s ∷ t ∷ bytes) (s′ ∷ t′ ∷ w)
     unfolding noEarlier
     no-earlier s′ t′ w v l n =
-        let x = starts-at states (λ a. allStarts starts (λ b. allWords (M .inputs) 6 (noEarlier a b))) (parts .others) s′ (v .start first) in
-        let y = starts-at states (λ b. allWords (M .inputs) 6 (noEarlier s′ b)) x t′ (v .start second) in
+        let x = starts-at held (λ a. allStarts starts (λ b. allWords (M .inputs) 6 (noEarlier a b))) (parts .others) s′ (v .start first) in
+        let y = starts-at held (λ b. allWords (M .inputs) 6 (noEarlier s′ b)) x t′ (v .start second) in
         let z = words-at (M .inputs) 6 (noEarlier s′ t′) y w l n in
-        lexicographic-test (s ∷ t ∷ bytes) (s′ ∷ t′ ∷ w) (rw (test-valid M starts (pair s′ t′ w) states v) at z)
+        lexicographic-test (s ∷ t ∷ bytes) (s′ ∷ t′ ∷ w) (rw (test-valid M starts (pair s′ t′ w) held v) at z)
 
     -- a valid pair with three letters in all has one in each loop and none between them and the mark
     three-letters :
@@ -358,7 +358,7 @@ module _ (M : Machine) (starts s t : ℕ) (bytes : List ℕ) where
         three-as e₁ e₂ e₃ e₄ h = rw (e₁, e₂, e₃, e₄) at h
 
     pub first-test : First (fromReachable M) (pair s t bytes)
-    first-test = record { valid = valid-test M starts (pair s t bytes) states (parts .valid); first = go }
+    first-test = record { valid = valid-test M starts (pair s t bytes) held (parts .valid); first = go }
       where
         go : (q : LoopedPair) → Valid (fromReachable M) q → Lexicographic (key (pair s t bytes)) (key q)
         go q v =

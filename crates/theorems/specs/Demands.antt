@@ -1,6 +1,7 @@
 -- The three demands, one record each, over the promises of the calls alone. A buyer begins here: `demand-1`, `demand-2`, `demand-3` and
 -- `from-c` of proofs/Demands.antt prove these records, and each call's contract is that it meets its promise for all arguments. That reader
--- and writer of coder files are inverses stands in Files.antt, and that refusal 10 goes by cases on O in TableLimit.antt.
+-- and writer of coder files are inverses stands in Files.antt, that refusal 10 goes by cases on O in TableLimit.antt, and that spare states
+-- do not count in SpareStates.antt. The runs that windows, answers and pairs go by start in reachable states (document 02, 5/13): `settingOf`.
 use Prim.Native.Nat.{ℕ, _+_, _≤_, _<_}
 use mathlib.Core.Path.{_≡_}
 use mathlib.Core.Logic.{_↔_}
@@ -140,8 +141,8 @@ pub record Demand1 : Type 0 where
 -- ---- demand 2: the machine of the table runs; the answer goes by what fits; letters come back
 
 -- Second sentence, for the answer v on the letters w of a window with b letters before the present one: v is right; and where one letter
--- alone fits, where no run has these outputs, and where two letters fit, v is that letter, "none" and "several". Where v is "none", no run
--- has these outputs.
+-- alone fits, where no run from a start state has these outputs, and where two letters fit, v is that letter, "none" and "several". Where v
+-- is "none", no such run has these outputs.
 pub record Said (S : Setting) (w : List ℕ) (b : ℕ) (v : theory.Answer) : Type 0 where
   pub right : Answers S w b v
   pub letter : (x : ℕ) → Alone S w b x → v ≡ theory.letter x
@@ -175,7 +176,7 @@ pub record Demand2 : Type 0 where
       TablePromise f w before (count-result.the-variants.Done n) after →
       (n ≡ tableSize (outputsOf f) w) ×
       ((k : ℕ) → k < n → SaidByte (settingOf f) (windowAt (outputsOf f) (size w) k) (w .before) (getD after k 0))
-  -- third sentence
+  -- third sentence, for runs from a reachable state (document 02, 5/13)
   pub back : LettersComeBack
   pub back-from-C : LettersComeBackFromC
 

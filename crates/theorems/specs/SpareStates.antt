@@ -1,12 +1,13 @@
 -- Spare states do not count (document 02, 5/13), over the promises of the calls: what "works" says with no setting; that the checker says
--- no to a pair with a start state that is not reachable; that a file with other spare states has the same outcomes; and that a coder
--- without spare states is studied as in document 01 alone.
+-- no to a pair with a start state that is not reachable; that two files which differ in spare states alone have the same outcomes of a run
+-- from a reachable state, of search, window, string and table, and of the check; and that a coder without spare states is studied as in
+-- document 01 alone.
 use Prim.Native.Nat.{ℕ, _≤_, _<_}
 use mathlib.Core.Path.{_≡_}
 use mathlib.Core.Bool.{true, false}
 use mathlib.Core.Logic.{_↔_}
 use mathlib.Core.List.{List}
-use Rattle.mealy.specs.Reachable.{Reachable, Padded}
+use Rattle.mealy.specs.Reachable.{Reachable, WithSpare}
 use Rattle.mealy.specs.Setting.{anyState}
 use Rattle.mealy.specs.Window.{Works, SameLetter}
 use Rattle.mealy.specs.Order.{Least}
@@ -14,6 +15,8 @@ use Rattle.mealy.specs.Answer.{Answer, Answers}
 use Rattle.mealy.specs.LoopedPair.{LoopedPair, Run, startOf, Valid}
 use Rattle.mealy.specs.First.{First}
 use Rattle.coder.specs.File.{fileRefusal, statesOf, outputsOf, machineOf, settingOf}
+use Rattle.running.specs.Run.{RunPromise}
+use Rattle.running.specs.declared.RunResult.{RunResult}
 use Rattle.values.specs.declared.Window.{Window}
 use Rattle.values.specs.Order.{relationOf}
 use Rattle.values.specs.declared.Order.{Order}
@@ -27,20 +30,24 @@ use Rattle.decoder.specs.declared.WindowResult.{WindowResult}
 use Rattle.checker.specs.Check.{checkRefusal, CheckPromise}
 use Rattle.checker.specs.declared.CheckResult.{CheckResult}
 use Rattle.checker.specs.declared.CheckResult.the-variants.{Checked}
-use Rattle.lowhenita.specs.Host.{SearchHosted, DecodeHosted, TableHosted, CheckHosted, WindowHosted}
+use Rattle.lowhenita.specs.Host.{RunHosted, SearchHosted, DecodeHosted, TableHosted, CheckHosted, WindowHosted}
 
--- Both files are accepted, and the second is the first with spare states, or with more of them: the same entries at each state that is
--- reachable, and any at the others.
-pub record PaddedFile (f f′ : List ℕ) : Type 0 where
+-- Both files are accepted, and they differ in spare states alone: the same entries at each state that is reachable, and any at the others.
+-- The second has at least as many states.
+pub record FileWithSpare (f f′ : List ℕ) : Type 0 where
   pub file : fileRefusal f ≡ 0
   pub file′ : fileRefusal f′ ≡ 0
   pub states : statesOf f ≤ statesOf f′
   pub outputs : outputsOf f ≡ outputsOf f′
-  pub entries : Padded (machineOf f) (machineOf f′)
+  pub entries : WithSpare (machineOf f) (machineOf f′)
 
--- Outcomes of one call, with the same arguments but for the file, on a file and on the padded one.
+-- Two outcomes of one call, with the same arguments but for the file, are equal.
 module _ (f f′ : List ℕ) where
   pub record SameOutcomes : Type 0 where
+    -- from a reachable state
+    pub run :
+        (s : ℕ) (xs before : List ℕ) (r r′ : RunResult) (after after′ : List ℕ) → Reachable (machineOf f) s →
+        RunPromise f s xs before r after → RunPromise f′ s xs before r′ after′ → (r ≡ r′) × (after ≡ after′)
     pub search :
         (o : Order) (before : List ℕ) (r r′ : SearchResult) (after after′ : List ℕ) → SearchPromise o f before r after →
         SearchPromise o f′ before r′ after′ → (r ≡ r′) × (after ≡ after′)
@@ -57,6 +64,10 @@ module _ (f f′ : List ℕ) where
         (p : LoopedPair) (r r′ : CheckResult) → ((u : Run) → startOf p u < statesOf f) → CheckPromise f p r → CheckPromise f′ p r′ → r ≡ r′
 
   pub record SameOutcomesFromC : Type 0 where
+    pub run :
+        (s : ℕ) (xs before result : List ℕ) (r r′ : ℕ) (after after′ given given′ : List ℕ) → Reachable (machineOf f) s →
+        RunHosted f s xs before result r after given → RunHosted f′ s xs before result r′ after′ given′ →
+        (r ≡ r′) × ((after ≡ after′) × (given ≡ given′))
     pub search :
         (before result : List ℕ) (r r′ : ℕ) (after after′ given given′ : List ℕ) → SearchHosted f before result r after given →
         SearchHosted f′ before result r′ after′ given′ → (r ≡ r′) × ((after ≡ after′) × (given ≡ given′))
@@ -90,9 +101,9 @@ pub record SpareStates : Type 0 where
   pub checked :
       (f : List ℕ) (p : LoopedPair) (r : CheckResult) (u : Run) → checkRefusal f p true ≡ 0 → CheckPromise f p r →
       (Reachable (machineOf f) (startOf p u) → ⊥) → r ≡ Checked false
-  -- spare states, whatever their entries, change no outcome
-  pub padded : (f f′ : List ℕ) → PaddedFile f f′ → SameOutcomes f f′
-  pub padded-from-C : (f f′ : List ℕ) → PaddedFile f f′ → SameOutcomesFromC f f′
-  -- without spare states nothing is new
+  -- spare states, whatever their entries, change none of these outcomes
+  pub with-spare : (f f′ : List ℕ) → FileWithSpare f f′ → SameOutcomes f f′
+  pub with-spare-from-C : (f f′ : List ℕ) → FileWithSpare f f′ → SameOutcomesFromC f f′
+  -- without spare states the meaning is that of document 01 alone
   pub none-spare :
       (f : List ℕ) → fileRefusal f ≡ 0 → ((s : ℕ) → s < statesOf f → Reachable (machineOf f) s) → AsInDocument01 f

@@ -1,4 +1,4 @@
--- `start_states` meets its contract: what the steps of the coder reach.
+-- `start_states` meets its contract: the closure of state 0 under the steps of the coder.
 use mathlib.Core.Path.{refl}
 use borrow.Author.Needs.{needs}
 use Rattle.coder.specs.Table.{machineOfCoder}
@@ -8,14 +8,14 @@ use Rattle.starts.proofs.inner.start_states.Tie as tie
 steps-requires : tie.Need-steps-requires
 steps-requires c κs = search needs
 
-reached-requires : tie.Need-reached-requires
-reached-requires c κs = c .before .steps .ensures .each
+closure-requires : tie.Need-closure-requires
+closure-requires c κs = c .before .steps .ensures .each
 
 returns : tie.Need-returns
 returns c =
     let w = c .before .before in
     let sound = w .before .pre in
-    c .reached .ensures (machineOfCoder (w .before .args .c)) refl (sound .states-low) (λ s i l m. sound .next-state s i) (w .steps .ensures)
+    c .closure .ensures (machineOfCoder (w .before .args .c)) refl (sound .states-low) (λ s i l m. sound .next-state s i) (w .steps .ensures)
 
 pub start-states-spec : {M : Type 1} → statement M
-start-states-spec = tie.close (tie.spec steps-requires reached-requires returns)
+start-states-spec = tie.close (tie.spec steps-requires closure-requires returns)
