@@ -1,6 +1,6 @@
 -- The promise of the checker leaves one result: some result meets it, and two that meet it for the same arguments are equal.
 use mathlib.Core.Path.{_≡_, refl, sym, ap, _∙_}
-use mathlib.Core.Bool.{true}
+use mathlib.Core.Bool.{Bool, true}
 use mathlib.Core.List.{List}
 use Prim.Native.Nat.{ℕ, zero, suc}
 use native.Mathlib.Decide.{ℕ-discrete}
@@ -23,10 +23,14 @@ module _ (f : List ℕ) (p : LoopedPair) where
   judged : {r : CheckResult} → (a : CheckedRight f p r) → Judges (Valid (settingOf f) p) (a .answer)
   judged a = record { yes′ = a .yes′; no′ = a .no′ }
 
+  -- the result, where it is known whether the pair is valid
+  pub checked-as : {r : CheckResult} {b : Bool} → CheckedRight f p r → Judges (Valid (settingOf f) p) b → r ≡ Checked b
+  checked-as a j = a .is ∙ ap Checked (judges-same _ _ (judged a) j)
+
   same-answer :
       (k : ℕ) (r r′ : CheckResult) → upon k (λ j. r ≡ Refused j) (CheckedRight f p r) →
       upon k (λ j. r′ ≡ Refused j) (CheckedRight f p r′) → r ≡ r′
-  same-answer zero r r′ a b = a .is ∙ ap Checked (judges-same _ _ (judged a) (judged b)) ∙ sym (b .is)
+  same-answer zero r r′ a b = checked-as a (judged b) ∙ sym (b .is)
   same-answer (suc k) r r′ a b = a ∙ sym b
 
   pub check-determined : (r r′ : CheckResult) → CheckPromise f p r → CheckPromise f p r′ → r ≡ r′

@@ -12,7 +12,7 @@ use Rattle.mealy.specs.Answer.{letter}
 use Rattle.mealy.proofs.Answers.{length-outs}
 use Rattle.mealy.proofs.ComesBack.{comes-back-at}
 use Rattle.mealy.proofs.ReachableStates.{reachable-closed}
-use Rattle.coder.specs.File.{fileRefusal, inputsOf, machineOf}
+use Rattle.coder.specs.File.{inputsOf, machineOf}
 use Rattle.fitting.proofs.Answers.{right-byte-unique}
 use Rattle.coder.specs.File.{settingOf}
 use Rattle.values.specs.Window.{size}
@@ -22,13 +22,13 @@ use Rattle.decoder.specs.Written.{Written}
 use Rattle.decoder.specs.Places.{places, ByteAt, stringRefusalIn, StringPromise}
 
 pub string-comes-back :
-    (f : List ℕ) (w : Window) (s : ℕ) (xs before : List ℕ) (r : CountResult) (after : List ℕ) → fileRefusal f ≡ 0 →
+    (f : List ℕ) (w : Window) (s : ℕ) (xs before : List ℕ) (r : CountResult) (after : List ℕ) →
     Works (settingOf f) (w .before) (w .after) → Reachable (machineOf f) s → Letters (inputsOf f) xs →
     stringRefusalIn f w (outs (machineOf f) s xs) (length before) true ≡ 0 →
     StringPromise f w (outs (machineOf f) s xs) before r after → (k : ℕ) → k < places (length xs) w →
     getD after k 0 ≡ getD xs (k + w .before) 0
 unfolding machineOf
-string-comes-back f w s xs before r after z works start letters accepted-call p k l =
+string-comes-back f w s xs before r after works start letters accepted-call p k l =
     let b = w .before in
     let o = outs (machineOf f) s xs in
     let long : length o ≡ length xs = length-outs (machineOf f) s xs in

@@ -1,16 +1,15 @@
 -- The two words that are written as numbers, by computed tests: all numbers below 16, and all but one.
 use mathlib.Core.Path.{_≡_, refl}
 use mathlib.Core.List.{List}
-use mathlib.Core.Bool.{Bool, true, _&&_, cond}
+use mathlib.Core.Bool.{Bool, true, cond}
 use mathlib.Core.Logic.{_≢_}
-use Prim.Native.Nat.{ℕ, _-_, _/_, _%_, _^_, _<_, _≤_}
+use Prim.Native.Nat.{ℕ, _-_, _/_, _%_, _^_, _<_}
 use native.Mathlib.Omega.{arith}
-use native.Mathlib.Decide.{decLt}
-use lib.Dec.{ltb, eqb}
-use borrow.Author.Tests.{ltb-true, eqb-true, lt-ltb, le-ltb, eq-eqb, ne-eqb}
+use lib.Dec.{eqb}
+use borrow.Author.Tests.{eqb-true, eq-eqb, ne-eqb}
 use Rattle.mealy.specs.Word.{Has, Holds}
 use Rattle.coder.specs.Refusal.{allBelow}
-use Rattle.coder.proofs.Refusals.{both-true, all-at}
+use Rattle.coder.proofs.Refusals.{all-at}
 use Rattle.coder.proofs.Fill.{Filled}
 use Rattle.setting.specs.Words.{ConflictsOf}
 

@@ -11,7 +11,7 @@ use Rattle.mealy.specs.Machine.{Machine, Total}
 use Rattle.mealy.specs.Reachable.{Reachable, EntryTo}
 use Rattle.mealy.specs.Image.{Image}
 use Rattle.mealy.specs.Word.{Has, Holds}
-use Rattle.mealy.proofs.Words.{holds-map, holds-none, holds-one, holds-union}
+use Rattle.mealy.proofs.Words.{holds-map, holds-none, holds-one}
 use Rattle.mealy.proofs.Members.{holds-member}
 use Rattle.mealy.proofs.OneMore.{next-below, holds-more}
 use Rattle.mealy.proofs.ReachableStates.{InSteps, in-steps-bounded}

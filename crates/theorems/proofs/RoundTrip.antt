@@ -91,5 +91,5 @@ round-trip f s xs coded before₁ r₁ after₁ l p o before₂ w after₂ q bef
       ran = rw (not-refused f s xs coded before₁ l) at (p .result);
       counted = (rw z at (d′ .result)) ∙ ap (λ n. Done (places n w)) long;
       back =
-          string-comes-back f w s xs before₃ r₃ after₃ (coded .file) (report .least .works) (is-start f s xs coded) (coded .letters) z d′;
+          string-comes-back f w s xs before₃ r₃ after₃ (report .least .works) (is-start f s xs coded) (coded .letters) z d′;
     }

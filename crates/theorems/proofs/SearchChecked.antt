@@ -1,6 +1,6 @@
 -- What the search gives, the checker accepts: over the promises of the two calls alone.
-use mathlib.Core.Path.{_≡_, refl}
-use mathlib.Core.Bool.{Bool, true, false}
+use mathlib.Core.Path.{_≡_}
+use mathlib.Core.Bool.{true}
 use mathlib.Core.List.{List}
 use Prim.Native.Nat.{ℕ, _*_}
 use lib.ListN.{length, take}
@@ -23,15 +23,9 @@ use Rattle.search.proofs.Determined.{found}
 use Rattle.checker.specs.Check.{checkRefusal, CheckedRight, CheckPromise}
 use Rattle.checker.specs.declared.CheckResult.{CheckResult}
 use Rattle.checker.specs.declared.CheckResult.the-variants.{Checked}
+use Rattle.checker.proofs.Determined.{checked-as}
+use Rattle.coder.proofs.Judging.{judges-yes}
 use Rattle.theorems.proofs.RoundTrip.{letters-test}
-
-pub yes-only : {r : CheckResult} (a : Bool) → r ≡ Checked a → (a ≡ false → ⊥) → r ≡ Checked true
-yes-only true e n = e
-yes-only false e n = absurd (n refl)
-
-pub no-only : {r : CheckResult} (a : Bool) → r ≡ Checked a → (a ≡ true → ⊥) → r ≡ Checked false
-no-only true e n = absurd (n refl)
-no-only false e n = e
 
 -- For a "no decoder", the check of that pair with the bytes of its letters, the first ones of the buffer, is not refused and says yes.
 pub search-checked :
@@ -55,4 +49,4 @@ search-checked o f before p after r s c =
       letters-test (inputsOf f) (take n after) (valid-letters (settingOf f) (pairOf p after) v),
     ) in
     let g : CheckedRight f (pairOf p (take n after)) r = rw fine at c in
-    yes-only (g .answer) (g .is) (λ e. g .no′ e (valid-cut (settingOf f) (pairOf p after) v))
+    checked-as f (pairOf p (take n after)) g (judges-yes (valid-cut (settingOf f) (pairOf p after) v))

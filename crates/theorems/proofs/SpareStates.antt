@@ -16,7 +16,7 @@ use Rattle.mealy.proofs.SameSettings.{outs-same, end-same, same-sym, works-same
 use Rattle.coder.specs.Refusal.{Judges}
 use Rattle.coder.specs.File.{statesOf, inputsOf, outputsOf, machineOf, settingOf}
 use Rattle.coder.proofs.Accepted.{accepted}
-use Rattle.coder.proofs.Judging.{judges-map}
+use Rattle.coder.proofs.Judging.{judges-not, judges-map}
 use Rattle.coder.proofs.Refusals.{answer-same, upon-map}
 use Rattle.coder.proofs.Tables.{total, some-state, file-bounded}
 use Rattle.running.specs.Run.{runRefusal}
@@ -49,7 +49,6 @@ use Rattle.lowhenita.specs.Host.{Hosted, BytesGiven}
 use Rattle.lowhenita.proofs.Determined as host
 use Rattle.theorems.specs.SpareStates.{FileWithSpare, SameOutcomes, SameOutcomesFromC, SpareStates}
 use Rattle.theorems.proofs.RoundTrip.{states-are}
-use Rattle.theorems.proofs.SearchChecked.{no-only}
 
 -- ---- from the one file to the other
 
@@ -252,7 +251,7 @@ spare-states =
       works = λ f b a. works↔same-letter (machineOf f) b a;
       checked = λ f p r u e c not-reachable.
           let g : CheckedRight f p r = rw e at c in
-          no-only (g .answer) (g .is) (λ yes. not-reachable (g .yes′ yes .start u));
+          checker.checked-as f p g (judges-not (λ v. not-reachable (v .start u)));
       with-spare = λ f f′ h. same-outcomes h;
       with-spare-from-C = λ f f′ h. same-from-C h;
       none-spare = λ f z all.

@@ -26,6 +26,7 @@ use Rattle.coder.specs.File.{within, inRange, entryInRange, entriesRefusal, fil
 use Rattle.coder.specs.Table.{table, coderOf, tableAt}
 use Rattle.coder.proofs.Refusals.{true-false, both-true, all-at}
 use Rattle.coder.proofs.Accepted.{accepted}
+use Rattle.coder.proofs.Judging.{judges-yes, judges-not}
 use Rattle.coder.proofs.Tables.{total, some-state}
 use Rattle.chains.specs.Chain.{isEntry, hasKey, over}
 use Rattle.running.specs.Run.{runRefusal, runRefusalIn}
@@ -61,9 +62,9 @@ use Rattle.search.specs.declared.Verdict.the-variants.{Least, NoDecoder}
 use Rattle.search.specs.declared.SearchResult.{SearchResult}
 use Rattle.search.specs.declared.SearchResult.the-variants.{Found}
 use Rattle.checker.specs.Check.{checkRefusal, CheckedRight}
+use Rattle.checker.proofs.Determined.{checked-as}
 use Rattle.theorems.specs.Starred as claimed
 use Rattle.theorems.specs.Starred.{Claim, Case, Holds, AllHold, AllCases, starred}
-use Rattle.theorems.proofs.SearchChecked.{yes-only, no-only}
 use Rattle.theorems.proofs.Tests.{sameList, same-list, allStarts, allWords, agree, worksTest, laterOrFails, leastTest, least-test, closesTest, validTest, test-valid, noEarlier, firstTest, first-size, first-test, differentTest, different-test}
 
 -- ---- the test of a claim
@@ -142,7 +143,7 @@ module _ (f : List ℕ) (z : fileRefusal f ≡ 0) where
     (λ o before r after l p. let h = searched o before r after l p in go o r (h .verdict) (h .is) before after (h .says)),
     λ r c.
         let g : CheckedRight f (claimed.pair s t bytes) r = rw e at c in
-        yes-only (g .answer) (g .is) (λ no. g .no′ no (first .valid)),
+        checked-as f (claimed.pair s t bytes) g (judges-yes (first .valid)),
   )
     where
       go :
@@ -177,7 +178,7 @@ module _ (f : List ℕ) (z : fileRefusal f ≡ 0) where
       Holds f (claimed.not-valid s t bytes)
   not-valid-holds s t bytes e not-valid r c =
       let g : CheckedRight f (claimed.pair s t bytes) r = rw e at c in
-      no-only (g .answer) (g .is) (λ yes. not-valid (g .yes′ yes))
+      checked-as f (claimed.pair s t bytes) g (judges-not not-valid)
 
   answer-holds :
       (b a : ℕ) (received : List ℕ) (v : Answer) → windowRefusal f (window b a) received true ≡ 0 →

@@ -1,7 +1,8 @@
 -- The three demands, one record each, over the promises of the calls alone. A buyer begins here: `demand-1`, `demand-2`, `demand-3` and
 -- `from-c` of proofs/Demands.antt prove these records, and each call's contract is that it meets its promise for all arguments. That reader
 -- and writer of coder files are inverses stands in Files.antt, that refusal 10 goes by cases on O in TableLimit.antt, and that spare states
--- do not count in SpareStates.antt. The runs that windows, answers and pairs go by start in reachable states (document 02, 5/13): `settingOf`.
+-- do not count in SpareStates.antt. The runs that windows, answers and pairs go by start in reachable states (document 02, 5/13):
+-- `settingOf`.
 use Prim.Native.Nat.{ℕ, _+_, _≤_, _<_}
 use mathlib.Core.Path.{_≡_}
 use mathlib.Core.Logic.{_↔_}

@@ -1,4 +1,5 @@
--- `closure` meets its contract: after k - 1 steps the set has the states within as many of state 0; these are all where a step adds none, and at the end.
+-- `closure` meets its contract: after k - 1 steps the set has the states within as many of state 0; these are all where a step adds none,
+-- and at the end.
 use Prim.Native.Nat.{_-_, _≤_}
 use borrow.Author.Needs.{needs}
 use native.Mathlib.Omega.{arith}
