@@ -1,12 +1,15 @@
 /* A host in C99 or C++: finds the window of a coder, the one with least lookahead, and decodes with it.
 
-   decode CODER-FILE [LETTER ...]
+   decode [-s SETTLE] CODER-FILE [LETTER ...]
        runs the coder from state 0 on the letters, decodes what it sends and says whether the letters came back; without letters, a few
        are made up. For a coder without a decoder it says so.
 
-   decode -r CODER-FILE < RECEIVED
+   decode [-s SETTLE] -r CODER-FILE < RECEIVED
        decodes the received letters of standard input, decimal numbers with white space between them, and prints one line: for each
        place that has a full window the letter, - where no run gives that window, ? where several letters fit.
+
+   SETTLE is the settle count of the window, 0 to 64, 0 where none is given. The first SETTLE letters decoded are printed like the others,
+   but need not be those that were sent.
 
    A message about an error goes to standard error. The exit status is 0; or 1 where a call refuses, where letters are to be decoded and
    there is no decoder, or where letters did not come back; or 2 where the command line, a file or a letter is wrong. */
@@ -92,6 +95,21 @@ static int read_letters(FILE *f, size_t *n)
     return status;
 }
 
+static int read_settle(const char *word, size_t *settle)
+{
+    const char *at;
+
+    *settle = 0;
+    for (at = word; isdigit((unsigned char)*at); at++) {
+        size_t digit = (size_t)(*at - '0');
+
+        if (*settle > (SIZE_MAX - digit) / 10)
+            break;
+        *settle = 10 * *settle + digit;
+    }
+    return at == word || *at != '\0' ? fail(2, "settle count", "not a number, or too large a one") : 0;
+}
+
 static void print_letters(const uint8_t *from, size_t n)
 {
     size_t k;
@@ -109,18 +127,22 @@ static void print_letters(const uint8_t *from, size_t n)
     putchar('\n');
 }
 
-static int decode_received(size_t file_len, size_t before, size_t after, size_t n)
+static int decode_received(size_t file_len, size_t before, size_t after, size_t settle, size_t n)
 {
-    if (refused("decode", lowhenita_decode(file, file_len, before, after, letters, n, decoded, sizeof decoded, result, sizeof result)))
+    size_t refusal = lowhenita_decode(file, file_len, before, after, settle, letters, n, decoded, sizeof decoded, result, sizeof result);
+
+    if (refused("decode", refusal))
         return 1;
     print_letters(decoded, (size_t)lowhenita_field(result, 0));
     return 0;
 }
 
-static int run_and_decode(size_t file_len, size_t before, size_t after, size_t n)
+static int run_and_decode(size_t file_len, size_t before, size_t after, size_t settle, size_t n)
 {
-    size_t count;
+    size_t refusal, count;
 
+    if (settle > 0)
+        printf("settle    %lu\n", (unsigned long)settle);
     printf("window    %lu %lu\n", (unsigned long)before, (unsigned long)after);
     if (n == 0)
         for (; n < 12; n++)
@@ -132,24 +154,25 @@ static int run_and_decode(size_t file_len, size_t before, size_t after, size_t n
     printf("sent      ");
     print_letters(sent, n);
 
-    if (refused("decode", lowhenita_decode(file, file_len, before, after, sent, n, decoded, sizeof decoded, result, sizeof result)))
+    refusal = lowhenita_decode(file, file_len, before, after, settle, sent, n, decoded, sizeof decoded, result, sizeof result);
+    if (refused("decode", refusal))
         return 1;
     count = (size_t)lowhenita_field(result, 0);
     printf("decoded   ");
     print_letters(decoded, count);
-    if (count == 0)
+    if (count <= settle)
         return 0;
-    if (memcmp(decoded, letters + before, count) != 0)
+    if (memcmp(decoded + settle, letters + before + settle, count - settle) != 0)
         return fail(1, "decode", "the letters did not come back");
-    printf("the letters at places %lu to %lu came back\n", (unsigned long)before, (unsigned long)(before + count - 1));
+    printf("the letters at places %lu to %lu came back\n", (unsigned long)(before + settle), (unsigned long)(before + count - 1));
     return 0;
 }
 
-static int search_and_decode(int receiving, size_t file_len, size_t n)
+static int search_and_decode(int receiving, size_t file_len, size_t settle, size_t n)
 {
     size_t before, after;
 
-    if (refused("search", lowhenita_search(file, file_len, pair, sizeof pair, result, sizeof result)))
+    if (refused("search", lowhenita_search(file, file_len, settle, pair, sizeof pair, result, sizeof result)))
         return 1;
     if (lowhenita_field(result, 0) == LOWHENITA_LOOPED_PAIR) {
         if (receiving)
@@ -161,26 +184,30 @@ static int search_and_decode(int receiving, size_t file_len, size_t n)
     }
     before = (size_t)lowhenita_field(result, 1);
     after = (size_t)lowhenita_field(result, 2);
-    return receiving ? decode_received(file_len, before, after, n) : run_and_decode(file_len, before, after, n);
+    return receiving ? decode_received(file_len, before, after, settle, n) : run_and_decode(file_len, before, after, settle, n);
 }
 
 int main(int argc, char **argv)
 {
-    int receiving = argc > 1 && strcmp(argv[1], "-r") == 0;
-    size_t file_len = 0, n = 0;
-    int status, k;
+    int settling = argc > 1 && strcmp(argv[1], "-s") == 0, first = settling ? 3 : 1; /* the first word after -s SETTLE */
+    int receiving = argc > first && strcmp(argv[first], "-r") == 0;
+    size_t file_len = 0, settle = 0, n = 0;
+    int status = 0, k;
 
-    if (receiving ? argc != 3 : argc < 2) {
-        fprintf(stderr, "usage: decode CODER-FILE [LETTER ...]\n       decode -r CODER-FILE < RECEIVED\n");
+    if (receiving ? argc != first + 2 : argc <= first) {
+        fprintf(stderr, "usage: decode [-s SETTLE] CODER-FILE [LETTER ...]\n       decode [-s SETTLE] -r CODER-FILE < RECEIVED\n");
         return 2;
     }
-    status = read_file(argv[1 + receiving], &file_len);
+    if (settling)
+        status = read_settle(argv[2], &settle);
+    if (status == 0)
+        status = read_file(argv[first + receiving], &file_len);
     if (receiving && status == 0)
         status = read_letters(stdin, &n);
-    for (k = 2; !receiving && k < argc && status == 0; k++)
+    for (k = first + 1; !receiving && k < argc && status == 0; k++)
         status = add_letter(argv[k], strlen(argv[k]), &n);
     if (status == 0)
-        status = search_and_decode(receiving, file_len, n);
+        status = search_and_decode(receiving, file_len, settle, n);
     if ((fflush(stdout) != 0 || ferror(stdout)) && status == 0)
         status = fail(2, "standard output", strerror(errno));
     return status;

@@ -14,6 +14,12 @@
  * input string reaches from state 0, the empty string included; the other states are spare and do not count. lowhenita_run starts in any
  * state.
  *
+ * A window is three numbers: the letters `before` the present one, the letters `after` it, and the settle count `settle`, 0 to
+ * LOWHENITA_MAX_SETTLE. Its runs start in a reachable state `settle` letters ahead of the window's first letter, and what they put out on
+ * those letters is not seen: a window is decoded from its own letters alone. With settle count 0 they start at the first letter. Whether
+ * some window works does not depend on the settle count; with a larger one the search finds the same window or an earlier one in its
+ * order; from 15 on every answer is the same.
+ *
  * The host owes:
  *   - each pointer is valid for its length: readable where it points to const, readable and writable otherwise;
  *   - a buffer that is written (not const) overlaps nothing else that is passed to the same call;
@@ -35,7 +41,7 @@ extern "C" {
 #endif
 
 /* The version of this header and of the library; make and pkg-config take it from here. */
-#define LOWHENITA_VERSION "1.5"
+#define LOWHENITA_VERSION "1.6"
 
 /* Limits of a coder: states, input letters, output letters; the bytes of its file. */
 #define LOWHENITA_MAX_STATES 16
@@ -43,8 +49,9 @@ extern "C" {
 #define LOWHENITA_MAX_OUTPUTS 64
 #define LOWHENITA_MAX_FILE_BYTES 518
 
-/* Limits of a call: a side of the window, the bytes of a table. */
+/* Limits of a call: a side of the window, its settle count, the bytes of a table. */
 #define LOWHENITA_MAX_SIDE 136
+#define LOWHENITA_MAX_SETTLE 64
 #define LOWHENITA_MAX_TABLE_BYTES 65536
 
 /* What each call wants of `result`, and the search of `letters`, whatever its verdict. */
@@ -71,6 +78,7 @@ extern "C" {
 #define LOWHENITA_REFUSED_ENTRY 6
 #define LOWHENITA_REFUSED_START_STATE 7
 #define LOWHENITA_REFUSED_WINDOW_SIDE 8
+#define LOWHENITA_REFUSED_SETTLE_COUNT 14
 #define LOWHENITA_REFUSED_NUMBER_OF_LETTERS 9
 #define LOWHENITA_REFUSED_TABLE_SIZE 10
 #define LOWHENITA_REFUSED_SHORT_BUFFER 11
@@ -99,6 +107,8 @@ static inline const char *lowhenita_refusal_text(size_t number)
         return "There is no such start state.";
     case LOWHENITA_REFUSED_WINDOW_SIDE:
         return "A window has more than 136 letters on one side.";
+    case LOWHENITA_REFUSED_SETTLE_COUNT:
+        return "A settle count is above 64.";
     case LOWHENITA_REFUSED_NUMBER_OF_LETTERS:
         return "There are more or fewer letters than the window or the looped pair has.";
     case LOWHENITA_REFUSED_TABLE_SIZE:
@@ -138,35 +148,40 @@ size_t lowhenita_run(const uint8_t *file, size_t file_len,
                      uint8_t *result, size_t result_len);
 
 /*
- * Finds of all windows that work the least in the order of least lookahead: the one with fewest letters after the present one and, of
- * several with as many, with fewest before it. Or, where no window works, the first looped pair, which shows it.
- * Field 0: LOWHENITA_WINDOW; then field 1: letters before the present one, field 2: letters after it; `letters` stays as it was.
+ * Finds of all windows with this settle count that work the least in the order of least lookahead: the one with fewest letters after the
+ * present one and, of several with as many, with fewest before it. Or, where no window works, the first looped pair, which shows it and is
+ * the same for every settle count.
+ * Field 0: LOWHENITA_WINDOW; then field 1: letters before the present one, field 2: letters after it; `letters` stays as it was. The
+ * window is to be used with the settle count that was given.
  * Field 0: LOWHENITA_LOOPED_PAIR; then fields 1 to 6: the start states s and t, the lengths of back loop, lead-in, lead-out and
  * forward loop; the pair's letters stand at the front of `letters`, two bytes each (first run, second run), the differing letter
  * between lead-in and lead-out. Of all valid pairs, of any length, it is the one with fewest letters; of several with as few the first by
  * s, t, the four lengths in this order, and the bytes of the letters. It is valid (lowhenita_check says 1).
- * Refusals, in checking order: 1 to 6, 11 (letters shorter than LOWHENITA_SEARCH_BYTES, or result).
+ * Refusals, in checking order: 1 to 6, 14, 11 (letters shorter than LOWHENITA_SEARCH_BYTES, or result).
  */
 size_t lowhenita_search(const uint8_t *file, size_t file_len,
+                        size_t settle,
                         uint8_t *letters, size_t letters_len,
                         uint8_t *result, size_t result_len);
 
 /*
  * Decodes each place of `received` that has a full window of `before` letters before it and `after` letters after it: one byte for
  * each, at the front of `output`: the letter that alone fits, LOWHENITA_NONE or LOWHENITA_SEVERAL. Byte k belongs to place
- * k + before. With a window that works, what a run from a reachable state has sent comes back.
+ * k + before and is decoded from the window's own letters alone, not from those ahead of it. With a window that works, the letters
+ * that a run from a reachable state was given come back at the places that have a full window and `settle` letters ahead of it: bytes
+ * settle and on. The bytes before these are decoded in the same way, and nothing is promised of them.
  * Field 0: the number of bytes written, received_len - before - after, or 0 where the string is shorter than one window.
- * Refusals, in checking order: 1 to 6, 8, 11 (output too short, or result), 13.
+ * Refusals, in checking order: 1 to 6, 8, 14, 11 (output too short, or result), 13.
  */
 size_t lowhenita_decode(const uint8_t *file, size_t file_len,
-                        size_t before, size_t after,
+                        size_t before, size_t after, size_t settle,
                         const uint8_t *received, size_t received_len,
                         uint8_t *output, size_t output_len,
                         uint8_t *result, size_t result_len);
 
 /*
  * Judges a looped pair from anyone: start states s and t, four lengths, and in `letters` two bytes for each letter.
- * Field 0: 1 for a valid pair, 0 for any other. A pair of which s or t is a spare state is not valid.
+ * Field 0: 1 for a valid pair, 0 for any other. A pair of which s or t is a spare state is not valid. A pair has no settle count.
  * Refusals, in checking order: 1 to 6, 7, 9 (letters_len is not twice the letters), 11 (result), 12.
  */
 size_t lowhenita_check(const uint8_t *file, size_t file_len,
@@ -177,25 +192,25 @@ size_t lowhenita_check(const uint8_t *file, size_t file_len,
                        uint8_t *result, size_t result_len);
 
 /*
- * Decodes one window of before + 1 + after received letters.
+ * Decodes one window of before + 1 + after received letters; the `settle` letters ahead of it are not given.
  * Field 0: the letter that alone fits, LOWHENITA_NONE or LOWHENITA_SEVERAL.
- * Refusals, in checking order: 1 to 6, 8, 9 (received_len is not before + 1 + after), 11 (result), 13.
+ * Refusals, in checking order: 1 to 6, 8, 14, 9 (received_len is not before + 1 + after), 11 (result), 13.
  */
 size_t lowhenita_window(const uint8_t *file, size_t file_len,
-                        size_t before, size_t after,
+                        size_t before, size_t after, size_t settle,
                         const uint8_t *received, size_t received_len,
                         uint8_t *result, size_t result_len);
 
 /*
  * Fills the decoder table of a window: one byte for each window of before + 1 + after letters, at its index, whose highest digit to
  * base O is the window's first letter.
- * Field 0: the table's size, O to the power before + 1 + after.
- * Refusals, in checking order: 1 to 6, 8, 10 (more than LOWHENITA_MAX_TABLE_BYTES), 11 (table too short, or result).
+ * Field 0: the table's size, O to the power before + 1 + after, whatever the settle count.
+ * Refusals, in checking order: 1 to 6, 8, 14, 10 (more than LOWHENITA_MAX_TABLE_BYTES), 11 (table too short, or result).
  * Number 10 by cases: the longest window has any number of letters for O = 1; 16 for 2; 10 for 3; 8 for 4; 6 for 5 and 6; 5 for 7 to 9;
  * 4 for 10 to 16; 3 for 17 to 40; 2 for 41 to 64.
  */
 size_t lowhenita_table(const uint8_t *file, size_t file_len,
-                       size_t before, size_t after,
+                       size_t before, size_t after, size_t settle,
                        uint8_t *table, size_t table_len,
                        uint8_t *result, size_t result_len);
 

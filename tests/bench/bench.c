@@ -16,7 +16,7 @@ enum { TURNS = 15, LETTERS = 20000, TABLE = 65536, CODERS = 200 };
 static coder_file file;
 static uint8_t input[LETTERS], sent[LETTERS], mine[TABLE], theirs[TABLE];
 static uint8_t my_letters[1026], their_letters[1026], result[64];
-static size_t before, after, letters;
+static size_t before, after, settle, letters; /* the settle count is 0 but where main sets it */
 
 static uint64_t field(int k)
 {
@@ -46,14 +46,14 @@ static void unequal(const char *what)
 
 static size_t do_search(void)
 {
-    return lowhenita_search(file.bytes, file.len, my_letters, sizeof my_letters, result, sizeof result);
+    return lowhenita_search(file.bytes, file.len, settle, my_letters, sizeof my_letters, result, sizeof result);
 }
 
 static plain_verdict verdict;
 
 static size_t do_plain_search(void)
 {
-    return plain_search(file.bytes, file.len, their_letters, sizeof their_letters, &verdict);
+    return plain_search(file.bytes, file.len, settle, their_letters, sizeof their_letters, &verdict);
 }
 
 static size_t do_run(void)
@@ -70,23 +70,24 @@ static size_t do_plain_run(void)
 
 static size_t do_decode(void)
 {
-    return lowhenita_decode(file.bytes, file.len, before, after, sent, letters, mine, sizeof mine, result,
+    return lowhenita_decode(file.bytes, file.len, before, after, settle, sent, letters, mine, sizeof mine, result,
                             sizeof result);
 }
 
 static size_t do_plain_decode(void)
 {
-    return plain_decode(file.bytes, file.len, before, after, sent, letters, theirs, sizeof theirs, &plain_count);
+    return plain_decode(file.bytes, file.len, before, after, settle, sent, letters, theirs, sizeof theirs,
+                        &plain_count);
 }
 
 static size_t do_table(void)
 {
-    return lowhenita_table(file.bytes, file.len, before, after, mine, sizeof mine, result, sizeof result);
+    return lowhenita_table(file.bytes, file.len, before, after, settle, mine, sizeof mine, result, sizeof result);
 }
 
 static size_t do_plain_table(void)
 {
-    return plain_table(file.bytes, file.len, before, after, theirs, sizeof theirs, &plain_count);
+    return plain_table(file.bytes, file.len, before, after, settle, theirs, sizeof theirs, &plain_count);
 }
 
 static size_t do_write(void)
@@ -292,6 +293,21 @@ static void bench_all_pairs(void)
         bench_pairs(counts[k][0], counts[k][1], counts[k][2]);
 }
 
+/* The largest settle count: a line of states that the letters ahead of the window leave one by one, and a coder in
+   which they leave none. */
+static void bench_settle(void)
+{
+    settle = LOWHENITA_MAX_SETTLE;
+    make_telling_line(&file, 14);
+    bench_search("search: line, 16 states, settle count 64");
+    bench_string("string: line, 16 states, window 0 0, settle count 64", 0, 0, LETTERS);
+    bench_table("table: line, 16 states, 46,656 bytes, settle count 64", 3, 2);
+    any_coder(16, 16, 64);
+    bench_search("search: random, 16 states, 64 outputs, settle count 64");
+    bench_string("string: random, 16 states, window 1 0, settle count 64", 1, 0, LETTERS);
+    settle = 0;
+}
+
 static void example_a(void)
 {
     example e;
@@ -345,5 +361,6 @@ int main(void)
     bench_strings("16 states, 16 inputs, 4 outputs");
     bench_table("table: 16 states, 16 inputs, 4 outputs, 65,536 bytes", 4, 3);
     bench_all_pairs();
+    bench_settle();
     return 0;
 }

@@ -6,7 +6,7 @@
 
 typedef struct coder {
     size_t states, inputs, outputs;
-    uint16_t starts; /* the states in which a run starts, once they are found */
+    uint16_t reachable, starts; /* the reachable states, the start states of a window, once they are found */
     uint8_t next[256], out[256]; /* state * 16 + input */
 } coder;
 
@@ -101,23 +101,37 @@ size_t plain_write(size_t states, size_t inputs, size_t outputs, const uint8_t *
 
 /* ---- decoding ---- */
 
-/* Finds the states in which a run starts, those that some input string reaches from state 0: each state is
-   followed once. */
-static void find_starts(coder *c)
+/* The states to which one letter leads from those of a set. */
+static unsigned one_letter(const coder *c, unsigned set)
 {
-    unsigned reached = 1, rest = 1;
+    unsigned next = 0;
+    size_t i;
+
+    for (; set; set &= set - 1)
+        for (i = 0; i < c->inputs; i++)
+            next |= 1u << c->next[16 * __builtin_ctz(set) + i];
+    return next;
+}
+
+/* Finds the reachable states, those to which some input string leads from state 0, and of them the start states
+   of a window: those to which `settle` letters lead from a reachable one. A letter takes states away or leaves the
+   set as it is, for good. */
+static void find_starts(coder *c, size_t settle)
+{
+    unsigned reached = 1, rest = 1, starts, next;
 
     while (rest) {
-        size_t s = (size_t)__builtin_ctz(rest), i;
-        unsigned next = 0;
-
-        rest &= rest - 1;
-        for (i = 0; i < c->inputs; i++)
-            next |= 1u << c->next[16 * s + i];
-        rest |= next & ~reached;
+        next = one_letter(c, rest & -rest);
+        rest = (rest & (rest - 1)) | (next & ~reached);
         reached |= next;
     }
-    c->starts = (uint16_t)reached;
+    for (starts = reached; settle > 0; settle--, starts = next) {
+        next = one_letter(c, starts);
+        if (next == starts)
+            break;
+    }
+    c->reachable = (uint16_t)reached;
+    c->starts = (uint16_t)starts;
 }
 
 /* For each output letter and state, of the entries with that output: the states to which those of the state
@@ -183,7 +197,7 @@ static uint8_t decode_window(const coder *c, const sets *d, const uint8_t *w, si
     return answer(found);
 }
 
-size_t plain_decode(const uint8_t *file, size_t file_len, size_t before, size_t after,
+size_t plain_decode(const uint8_t *file, size_t file_len, size_t before, size_t after, size_t settle,
                     const uint8_t *received, size_t received_len, uint8_t *output,
                     size_t output_len, size_t *count)
 {
@@ -195,12 +209,14 @@ size_t plain_decode(const uint8_t *file, size_t file_len, size_t before, size_t 
         return r;
     if (before > 136 || after > 136)
         return 8;
+    if (settle > 64)
+        return 14;
     n = received_len < before + 1 + after ? 0 : received_len - before - after;
     if (output_len < n)
         return 11;
     if (!below(received, received_len, c.outputs))
         return 13;
-    find_starts(&c);
+    find_starts(&c, settle);
     make_sets(&c, &d);
     for (k = 0; k < n; k++)
         output[k] = decode_window(&c, &d, received + k, before, after);
@@ -270,7 +286,7 @@ static uint8_t *fill(const coder *c, const sets *d, size_t before, size_t size, 
     return table;
 }
 
-size_t plain_table(const uint8_t *file, size_t file_len, size_t before, size_t after,
+size_t plain_table(const uint8_t *file, size_t file_len, size_t before, size_t after, size_t settle,
                    uint8_t *table, size_t table_len, size_t *count)
 {
     coder c;
@@ -281,13 +297,15 @@ size_t plain_table(const uint8_t *file, size_t file_len, size_t before, size_t a
         return r;
     if (before > 136 || after > 136)
         return 8;
+    if (settle > 64)
+        return 14;
     for (k = 0; k < before + 1 + after && size <= 65536; k++)
         size *= c.outputs;
     if (size > 65536)
         return 10;
     if (table_len < size)
         return 11;
-    find_starts(&c);
+    find_starts(&c, settle);
     make_sets(&c, &d);
     if (c.outputs == 1) {
         uint8_t w[273] = {0};
@@ -304,9 +322,10 @@ size_t plain_table(const uint8_t *file, size_t file_len, size_t before, size_t a
 
 enum { ENDLESS = 255 };
 
-/* depth[s][t]: the number of levels in which the pair stands, or ENDLESS. near and far are the ends of each
-   entry; to[o][u] has the near ends of the entries with output o and far end u. */
-static void depths(const coder *c, const uint8_t *near, const uint8_t *far, uint8_t depth[16][16])
+/* depth[s][t]: the number of levels in which the pair stands, or ENDLESS; in the first stand the pairs of these
+   states. near and far are the ends of each entry; to[o][u] has the near ends of the entries with output o and far
+   end u. */
+static void depths(const coder *c, uint16_t first, const uint8_t *near, const uint8_t *far, uint8_t depth[16][16])
 {
     static uint16_t to[64][16];
     uint16_t rows[16], fresh[16];
@@ -316,7 +335,7 @@ static void depths(const coder *c, const uint8_t *near, const uint8_t *far, uint
     memset(to, 0, sizeof to);
     memset(depth, 0, 256);
     for (s = 0; s < c->states; s++) {
-        rows[s] = c->starts >> s & 1 ? c->starts : 0;
+        rows[s] = first >> s & 1 ? first : 0;
         for (i = 0; i < c->inputs; i++) {
             e = 16 * s + i;
             to[c->out[e]][far[e]] |= (uint16_t)(1u << near[e]);
@@ -551,7 +570,7 @@ static void find_pair(const coder *c, uint8_t *letters, plain_verdict *v)
     differing_costs(&m, after, whole);
     lower_costs(&m, LETTER + LEAD_IN, whole);
     for (p = 1; p < 16 * c->states; p++)
-        if ((c->starts >> p / 16 & c->starts >> p % 16 & 1)
+        if ((c->reachable >> p / 16 & c->reachable >> p % 16 & 1)
             && loop[p] + whole[p] / LETTER < loop[start] + whole[start] / LETTER)
             start = p;
     v->is_pair = 1;
@@ -573,7 +592,7 @@ static void find_pair(const coder *c, uint8_t *letters, plain_verdict *v)
 
 /* ---- window or pair ---- */
 
-size_t plain_search(const uint8_t *file, size_t file_len, uint8_t *letters, size_t letters_len,
+size_t plain_search(const uint8_t *file, size_t file_len, size_t settle, uint8_t *letters, size_t letters_len,
                     plain_verdict *v)
 {
     coder c;
@@ -582,13 +601,15 @@ size_t plain_search(const uint8_t *file, size_t file_len, uint8_t *letters, size
 
     if (r)
         return r;
+    if (settle > 64)
+        return 14;
     if (letters_len < 1026)
         return 11;
     for (x = 0; x < 256; x++)
         source[x] = (uint8_t)(x / 16);
-    find_starts(&c);
-    depths(&c, c.next, source, back);
-    depths(&c, source, c.next, forward);
+    find_starts(&c, settle);
+    depths(&c, c.starts, c.next, source, back);
+    depths(&c, c.reachable, source, c.next, forward);
     memset(worst, 0, sizeof worst);
     for (s = 0; s < c.states; s++)
         for (i = 0; i < c.inputs; i++)

@@ -9,10 +9,10 @@
 /* Each returns 0 or the refusal's number, as the call of the library with the same name. */
 size_t plain_run(const uint8_t *file, size_t file_len, size_t start, const uint8_t *input,
                  size_t input_len, uint8_t *output, size_t output_len, size_t *count, size_t *end);
-size_t plain_decode(const uint8_t *file, size_t file_len, size_t before, size_t after,
+size_t plain_decode(const uint8_t *file, size_t file_len, size_t before, size_t after, size_t settle,
                     const uint8_t *received, size_t received_len, uint8_t *output,
                     size_t output_len, size_t *count);
-size_t plain_table(const uint8_t *file, size_t file_len, size_t before, size_t after,
+size_t plain_table(const uint8_t *file, size_t file_len, size_t before, size_t after, size_t settle,
                    uint8_t *table, size_t table_len, size_t *count);
 
 size_t plain_write(size_t states, size_t inputs, size_t outputs, const uint8_t *entries,
@@ -25,7 +25,7 @@ typedef struct plain_verdict {
     size_t s, t, back_loop, lead_in, lead_out, forward_loop;
 } plain_verdict;
 
-size_t plain_search(const uint8_t *file, size_t file_len, uint8_t *letters, size_t letters_len,
-                    plain_verdict *verdict);
+size_t plain_search(const uint8_t *file, size_t file_len, size_t settle, uint8_t *letters,
+                    size_t letters_len, plain_verdict *verdict);
 
 #endif

@@ -6,7 +6,7 @@
 #include <stdio.h>
 #include <string.h>
 
-enum { REFUSALS = 13 };
+enum { REFUSALS = 14 };
 
 /* Running parity: 2 states, 2 input letters, 2 output letters. */
 static const uint8_t parity[] = {1, 0, 11, 2, 2, 2, 0, 0, 1, 1, 1, 1, 0, 0};
@@ -62,7 +62,7 @@ static size_t search_changed(size_t place, uint8_t byte, size_t len)
 {
     memcpy(file, parity, sizeof file);
     file[place] = byte;
-    return lowhenita_search(file, len, letters, sizeof letters, result, sizeof result);
+    return lowhenita_search(file, len, 0, letters, sizeof letters, result, sizeof result);
 }
 
 /* The writer on the parity coder's counts and entries, with another number of states, of entry bytes and of bytes for the file. */
@@ -99,14 +99,35 @@ static void refusals(void)
     expect_refusal(search_changed(6, 2, n), LOWHENITA_REFUSED_ENTRY);
     expect_refusal(search_changed(13, 2, n), LOWHENITA_REFUSED_ENTRY);
     expect_refusal(lowhenita_run(parity, n, 2, two, 1, bytes, 1, result, sizeof result), LOWHENITA_REFUSED_START_STATE);
-    expect_refusal(lowhenita_decode(parity, n, 0, 137, two, 1, bytes, 1, result, sizeof result), LOWHENITA_REFUSED_WINDOW_SIDE);
-    expect_refusal(lowhenita_window(parity, n, 1, 0, two, 1, result, sizeof result), LOWHENITA_REFUSED_NUMBER_OF_LETTERS);
+    expect_refusal(lowhenita_decode(parity, n, 0, 137, 0, two, 1, bytes, 1, result, sizeof result), LOWHENITA_REFUSED_WINDOW_SIDE);
+    expect_refusal(lowhenita_window(parity, n, 1, 0, 0, two, 1, result, sizeof result), LOWHENITA_REFUSED_NUMBER_OF_LETTERS);
     expect_refusal(lowhenita_check(parity, n, 0, 0, 1, 0, 0, 1, two, 2, result, sizeof result), LOWHENITA_REFUSED_NUMBER_OF_LETTERS);
-    expect_refusal(lowhenita_table(parity, n, 8, 8, bytes, sizeof bytes, result, sizeof result), LOWHENITA_REFUSED_TABLE_SIZE);
-    expect_refusal(lowhenita_search(parity, n, letters, sizeof letters - 1, result, sizeof result), LOWHENITA_REFUSED_SHORT_BUFFER);
-    expect_refusal(lowhenita_search(parity, n, letters, sizeof letters, result, sizeof result - 1), LOWHENITA_REFUSED_SHORT_BUFFER);
+    expect_refusal(lowhenita_table(parity, n, 8, 8, 0, bytes, sizeof bytes, result, sizeof result), LOWHENITA_REFUSED_TABLE_SIZE);
+    expect_refusal(lowhenita_search(parity, n, 0, letters, sizeof letters - 1, result, sizeof result), LOWHENITA_REFUSED_SHORT_BUFFER);
+    expect_refusal(lowhenita_search(parity, n, 0, letters, sizeof letters, result, sizeof result - 1), LOWHENITA_REFUSED_SHORT_BUFFER);
     expect_refusal(lowhenita_run(parity, n, 0, two, 2, bytes, 2, result, sizeof result), LOWHENITA_REFUSED_INPUT_LETTER);
-    expect_refusal(lowhenita_decode(parity, n, 0, 0, two, 2, bytes, 2, result, sizeof result), LOWHENITA_REFUSED_RECEIVED_LETTER);
+    expect_refusal(lowhenita_decode(parity, n, 0, 0, 0, two, 2, bytes, 2, result, sizeof result), LOWHENITA_REFUSED_RECEIVED_LETTER);
+}
+
+/* The four calls that take a settle count: the largest, and one above it, which comes before a wrong number of letters and short buffers
+   and after a side that is too large. */
+static void settle_counts(void)
+{
+    static const uint8_t zeros[] = {0, 0};
+    const size_t n = sizeof parity, most = LOWHENITA_MAX_SETTLE, above = most + 1;
+
+    expect_refusal(lowhenita_search(parity, n, most, letters, sizeof letters, result, sizeof result), 0);
+    expect_refusal(lowhenita_decode(parity, n, 1, 0, most, zeros, 2, bytes, 1, result, sizeof result), 0);
+    expect_refusal(lowhenita_window(parity, n, 1, 0, most, zeros, 2, result, sizeof result), 0);
+    expect_refusal(lowhenita_table(parity, n, 1, 0, most, bytes, 4, result, sizeof result), 0);
+    expect_refusal(lowhenita_search(parity, n, above, letters, sizeof letters, result, sizeof result), LOWHENITA_REFUSED_SETTLE_COUNT);
+    expect_refusal(lowhenita_decode(parity, n, 1, 0, above, zeros, 2, bytes, 1, result, sizeof result), LOWHENITA_REFUSED_SETTLE_COUNT);
+    expect_refusal(lowhenita_window(parity, n, 1, 0, above, zeros, 2, result, sizeof result), LOWHENITA_REFUSED_SETTLE_COUNT);
+    expect_refusal(lowhenita_table(parity, n, 1, 0, above, bytes, 4, result, sizeof result), LOWHENITA_REFUSED_SETTLE_COUNT);
+    expect_refusal(lowhenita_search(parity, n, (size_t)1 << 32, letters, 0, result, 0), LOWHENITA_REFUSED_SETTLE_COUNT);
+    expect_refusal(lowhenita_window(parity, n, 1, 0, above, zeros, 1, result, 0), LOWHENITA_REFUSED_SETTLE_COUNT);
+    expect_refusal(lowhenita_table(parity, n, 8, 8, 256, bytes, 0, result, 0), LOWHENITA_REFUSED_SETTLE_COUNT);
+    expect_refusal(lowhenita_decode(parity, n, 137, 0, above, zeros, 2, bytes, 1, result, sizeof result), LOWHENITA_REFUSED_WINDOW_SIDE);
 }
 
 #define ROW(name) printf("| %d | %s | `%s` |\n", LOWHENITA_REFUSED_##name, lowhenita_refusal_text(LOWHENITA_REFUSED_##name), #name)
@@ -121,6 +142,7 @@ static void rows(void)
     ROW(ENTRY);
     ROW(START_STATE);
     ROW(WINDOW_SIDE);
+    ROW(SETTLE_COUNT);
     ROW(NUMBER_OF_LETTERS);
     ROW(TABLE_SIZE);
     ROW(SHORT_BUFFER);
@@ -138,6 +160,7 @@ int main(int argc, char **argv)
     fields();
     texts();
     refusals();
+    settle_counts();
     writing();
     printf("%lu passed, %lu failed\n", passed, failed);
     return failed == 0 && passed > 0 ? 0 : 1;

@@ -41,7 +41,7 @@ static void search(void)
     size_t pair[6], n = 1, k;
 
     memset(letters, 9, sizeof letters);
-    HOLDS(lowhenita_search(a, sizeof a, letters, 1026, result, 64) == 0);
+    HOLDS(lowhenita_search(a, sizeof a, 0, letters, 1026, result, 64) == 0);
     HOLDS(lowhenita_field(result, 0) == LOWHENITA_WINDOW);
     HOLDS(lowhenita_field(result, 1) == 1);
     HOLDS(lowhenita_field(result, 2) == 0);
@@ -49,14 +49,19 @@ static void search(void)
         ;
     HOLDS(k == sizeof letters);
 
-    HOLDS(lowhenita_search(g, sizeof g, letters, 1026, result, 64) == 0);
+    HOLDS(lowhenita_search(g, sizeof g, 0, letters, 1026, result, 64) == 0);
     HOLDS(lowhenita_field(result, 0) == LOWHENITA_WINDOW);
     HOLDS(lowhenita_field(result, 1) == 2);
     HOLDS(lowhenita_field(result, 2) == 0);
-    HOLDS(lowhenita_table(g, sizeof g, 0, 1, shown, sizeof shown, other, 64) == 0);
+    HOLDS(lowhenita_table(g, sizeof g, 0, 1, 0, shown, sizeof shown, other, 64) == 0);
     HOLDS(memchr(shown, LOWHENITA_SEVERAL, sizeof shown) == NULL);
+    HOLDS(lowhenita_search(g, sizeof g, 2, letters, 1026, result, 64) == 0);
+    HOLDS(lowhenita_field(result, 0) == LOWHENITA_WINDOW);
+    HOLDS(lowhenita_field(result, 1) == 0);
+    HOLDS(lowhenita_field(result, 2) == 0);
+    HOLDS(lowhenita_search(g, sizeof g, 65, letters, 1026, result, 64) == LOWHENITA_REFUSED_SETTLE_COUNT);
 
-    HOLDS(lowhenita_search(c, sizeof c, letters, 1026, result, 64) == 0);
+    HOLDS(lowhenita_search(c, sizeof c, 0, letters, 1026, result, 64) == 0);
     HOLDS(lowhenita_field(result, 0) == LOWHENITA_LOOPED_PAIR);
     for (k = 0; k < 6; k++) {
         pair[k] = (size_t)lowhenita_field(result, k + 1);
@@ -68,12 +73,17 @@ static void search(void)
 
 static void decode(void)
 {
-    static const uint8_t received[] = {1, 0, 0};
+    static const uint8_t received[] = {1, 0, 0}, letters_sent[] = {0, 1, 0, 1};
+    uint8_t sent[4];
 
     memset(out, 9, sizeof out);
-    HOLDS(lowhenita_decode(a, sizeof a, 1, 0, received, 3, out, 4, result, 64) == 0);
+    HOLDS(lowhenita_decode(a, sizeof a, 1, 0, 0, received, 3, out, 4, result, 64) == 0);
     HOLDS(wrote(1, 0, 9, 9));
     HOLDS(lowhenita_field(result, 0) == 2);
+    HOLDS(lowhenita_run(g, sizeof g, 0, letters_sent, 4, sent, 4, result, 64) == 0);
+    HOLDS(lowhenita_decode(g, sizeof g, 0, 0, 2, sent, 4, out, 4, result, 64) == 0);
+    HOLDS(wrote(LOWHENITA_NONE, 0, 0, 1));
+    HOLDS(lowhenita_field(result, 0) == 4);
 }
 
 static void check(void)
@@ -87,7 +97,7 @@ static void check(void)
     HOLDS(lowhenita_check(h, sizeof h, 1, 1, 1, 0, 0, 1, pair, 6, result, 64) == 0);
     HOLDS(lowhenita_field(result, 0) == 0);
     HOLDS(lowhenita_check(h, sizeof h, 1, 2, 1, 0, 0, 1, pair, 6, result, 64) == LOWHENITA_REFUSED_START_STATE);
-    HOLDS(lowhenita_search(h, sizeof h, letters, 1026, result, 64) == 0);
+    HOLDS(lowhenita_search(h, sizeof h, 0, letters, 1026, result, 64) == 0);
     HOLDS(lowhenita_field(result, 0) == LOWHENITA_WINDOW);
     HOLDS(lowhenita_field(result, 1) == 0);
     HOLDS(lowhenita_field(result, 2) == 0);
@@ -99,20 +109,24 @@ static void window(void)
 {
     static const uint8_t received[] = {0, 1};
 
-    HOLDS(lowhenita_window(a, sizeof a, 1, 0, received, 2, result, 64) == 0);
+    HOLDS(lowhenita_window(a, sizeof a, 1, 0, 0, received, 2, result, 64) == 0);
     HOLDS(lowhenita_field(result, 0) == 1);
+    HOLDS(lowhenita_window(g, sizeof g, 0, 0, 0, received, 1, result, 64) == 0);
+    HOLDS(lowhenita_field(result, 0) == LOWHENITA_SEVERAL);
+    HOLDS(lowhenita_window(g, sizeof g, 0, 0, 2, received, 1, result, 64) == 0);
+    HOLDS(lowhenita_field(result, 0) == 0);
 }
 
 static void table(void)
 {
     memset(out, 9, sizeof out);
-    HOLDS(lowhenita_table(a, sizeof a, 1, 0, out, 4, result, 64) == 0);
+    HOLDS(lowhenita_table(a, sizeof a, 1, 0, 0, out, 4, result, 64) == 0);
     HOLDS(wrote(0, 1, 1, 0));
     HOLDS(lowhenita_field(result, 0) == 4);
-    HOLDS(lowhenita_table(a, sizeof a, 1, 0, out, 3, result, 64) == LOWHENITA_REFUSED_SHORT_BUFFER);
-    HOLDS(lowhenita_table(a, sizeof a, 8, 8, out, 4, result, 64) == LOWHENITA_REFUSED_TABLE_SIZE);
-    HOLDS(lowhenita_table(a, sizeof a, 8, 8, out, 0, result, 0) == LOWHENITA_REFUSED_TABLE_SIZE);
-    HOLDS(lowhenita_table(a, sizeof a, 8, 7, out, 4, result, 64) == LOWHENITA_REFUSED_SHORT_BUFFER);
+    HOLDS(lowhenita_table(a, sizeof a, 1, 0, 0, out, 3, result, 64) == LOWHENITA_REFUSED_SHORT_BUFFER);
+    HOLDS(lowhenita_table(a, sizeof a, 8, 8, 0, out, 4, result, 64) == LOWHENITA_REFUSED_TABLE_SIZE);
+    HOLDS(lowhenita_table(a, sizeof a, 8, 8, 0, out, 0, result, 0) == LOWHENITA_REFUSED_TABLE_SIZE);
+    HOLDS(lowhenita_table(a, sizeof a, 8, 7, 0, out, 4, result, 64) == LOWHENITA_REFUSED_SHORT_BUFFER);
 }
 
 static void writing(void)

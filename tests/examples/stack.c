@@ -18,7 +18,7 @@ static uint8_t *stack;
 static uint8_t letters[LOWHENITA_SEARCH_BYTES], bytes[LOWHENITA_MAX_TABLE_BYTES], result[LOWHENITA_RESULT_BYTES];
 static uint8_t zeros[STRING];
 static const coder_file *coder;
-static size_t before, after, most[CALLS], accepted[CALLS];
+static size_t before, after, settle, most[CALLS], accepted[CALLS];
 static int call;
 
 /* Every received letter is 0, an output letter of every coder; the pair to be checked is the one that the last search has found. */
@@ -32,22 +32,22 @@ static size_t one_call(void)
     case RUN:
         return lowhenita_run(f, len, 0, zeros, STRING, bytes, sizeof bytes, result, sizeof result);
     case SEARCH:
-        refusal = lowhenita_search(f, len, letters, sizeof letters, result, sizeof result);
+        refusal = lowhenita_search(f, len, settle, letters, sizeof letters, result, sizeof result);
         for (n = 1, k = 0; k < 6; k++) {
             pair[k] = (size_t)lowhenita_field(result, 0) == LOWHENITA_LOOPED_PAIR ? (size_t)lowhenita_field(result, k + 1) : 0;
             n += k < 2 ? 0 : pair[k];
         }
         return refusal;
     case DECODE:
-        return lowhenita_decode(f, len, before, after, zeros, STRING, bytes, sizeof bytes, result, sizeof result);
+        return lowhenita_decode(f, len, before, after, settle, zeros, STRING, bytes, sizeof bytes, result, sizeof result);
     case CHECK:
         return lowhenita_check(f, len, pair[0], pair[1], pair[2], pair[3], pair[4], pair[5], letters, 2 * n, result, sizeof result);
     case WINDOW:
-        return lowhenita_window(f, len, before, after, zeros, before + 1 + after, result, sizeof result);
+        return lowhenita_window(f, len, before, after, settle, zeros, before + 1 + after, result, sizeof result);
     case WRITE:
         return lowhenita_write(f[3], f[4], f[5], f + 6, len - 6, bytes, sizeof bytes, result, sizeof result);
     default:
-        return lowhenita_table(f, len, before, after, bytes, sizeof bytes, result, sizeof result);
+        return lowhenita_table(f, len, before, after, settle, bytes, sizeof bytes, result, sizeof result);
     }
 }
 
@@ -78,14 +78,16 @@ static int on_own_stack(void)
 
 static int all_calls(const coder_file *f)
 {
-    static const size_t sides[][2] = {{0, 0}, {1, 0}, {0, 1}, {7, 8}, {15, 0}, {0, 15}, {136, 0}, {0, 136}, {136, 136}};
+    static const size_t windows[][3] = {{0, 0, 0}, {1, 0, 64}, {0, 1, 1}, {7, 8, 0}, {15, 0, 2}, {0, 15, 64}, {136, 0, 15}, {0, 136, 64},
+                                        {136, 136, 64}};
     size_t k;
 
     coder = f;
     for (call = 0; call < CALLS; call++)
-        for (k = 0; k < (call == DECODE || call == WINDOW || call == TABLE ? sizeof sides / sizeof *sides : 1); k++) {
-            before = sides[k][0];
-            after = sides[k][1];
+        for (k = 0; k < (call == SEARCH ? 2 : call == DECODE || call == WINDOW || call == TABLE ? sizeof windows / sizeof *windows : 1); k++) {
+            before = windows[k][0];
+            after = windows[k][1];
+            settle = windows[k][2];
             if (!on_own_stack())
                 return 0;
         }

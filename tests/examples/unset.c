@@ -37,7 +37,7 @@ static void look(size_t refusal, size_t written, size_t fields)
             zeros++;
 }
 
-static void all_calls(const uint8_t *file, size_t len, size_t past)
+static void all_calls(const uint8_t *file, size_t len, size_t settle, size_t past)
 {
     static const uint8_t letters[STRING];
     size_t refusal, n = 0, k;
@@ -45,19 +45,19 @@ static void all_calls(const uint8_t *file, size_t len, size_t past)
     lend();
     look(lowhenita_run(file, len, 0, letters, STRING, bytes, ROOM, result, LOWHENITA_RESULT_BYTES), STRING, 2);
     lend();
-    refusal = lowhenita_search(file, len, bytes, ROOM, result, LOWHENITA_RESULT_BYTES);
+    refusal = lowhenita_search(file, len, settle, bytes, ROOM, result, LOWHENITA_RESULT_BYTES);
     if (lowhenita_field(result, 0) == LOWHENITA_LOOPED_PAIR)
         for (n = 2, k = 3; k < 7; k++)
             n += 2 * (size_t)lowhenita_field(result, k);
     look(refusal, n, n == 0 ? 3 : 7);
     lend();
-    look(lowhenita_decode(file, len, 3, 4, letters, STRING, bytes, ROOM, result, LOWHENITA_RESULT_BYTES), STRING - 7, 1);
+    look(lowhenita_decode(file, len, 3, 4, settle, letters, STRING, bytes, ROOM, result, LOWHENITA_RESULT_BYTES), STRING - 7, 1);
     lend();
     look(lowhenita_check(file, len, 0, 0, 1, 0, 0, 1, letters, 6, result, LOWHENITA_RESULT_BYTES), 0, 1);
     lend();
-    look(lowhenita_window(file, len, 3, 4, letters, 8, result, LOWHENITA_RESULT_BYTES), 0, 1);
+    look(lowhenita_window(file, len, 3, 4, settle, letters, 8, result, LOWHENITA_RESULT_BYTES), 0, 1);
     lend();
-    refusal = lowhenita_table(file, len, 1, 0, bytes, ROOM, result, LOWHENITA_RESULT_BYTES);
+    refusal = lowhenita_table(file, len, 1, 0, settle, bytes, ROOM, result, LOWHENITA_RESULT_BYTES);
     look(refusal, (size_t)lowhenita_field(result, 0) + past, 1);
     lend();
     look(lowhenita_write(file[3], file[4], file[5], file + 6, len - 6, bytes, ROOM, result, LOWHENITA_RESULT_BYTES), len, 1);
@@ -72,12 +72,15 @@ int main(int argc, char **argv)
     (void)argv;
     for (k = 0; k < EXAMPLES; k++) {
         make_example(k, &e);
-        all_calls(e.file.bytes, e.file.len, argc > 1);
+        all_calls(e.file.bytes, e.file.len, 0, argc > 1);
+        all_calls(e.file.bytes, e.file.len, 2, argc > 1);
     }
     make_backward_chain(&f, 16, 14);
-    all_calls(f.bytes, f.len, argc > 1);
+    all_calls(f.bytes, f.len, 0, argc > 1);
     make_closed_both(&f, 16, 13);
-    all_calls(f.bytes, f.len, argc > 1);
+    all_calls(f.bytes, f.len, 0, argc > 1);
+    make_telling_line(&f, 14);
+    all_calls(f.bytes, f.len, LOWHENITA_MAX_SETTLE, argc > 1);
     free(bytes);
     free(result);
     printf("%lu\n", zeros);

@@ -38,6 +38,22 @@ void random_letters(size_t n, size_t limit)
         letters_room[k] = (uint8_t)random_below(limit);
 }
 
+size_t random_settle(void)
+{
+    switch (random_below(8)) {
+    case 0:
+        return 0;
+    case 1:
+        return 15;
+    case 2:
+        return MOST_SETTLE;
+    case 3:
+        return random_below(MOST_SETTLE + 1);
+    default:
+        return 1 + random_below(4);
+    }
+}
+
 /* Received letters: those of a run, those of a run with one changed, or any. */
 static void random_received(const coder *c, size_t n)
 {
@@ -174,6 +190,7 @@ arguments random_arguments(enum call call, const coder_file *f)
     size_t slack = random_below(6);
 
     a.result_len += random_below(3) == 0 ? random_below(40) : 0;
+    a.settle = random_settle();
     switch (call) {
     case CALL_RUN:
         a.start = random_below(c.states);

@@ -6,20 +6,21 @@
 
 /* ---- the search, and what it leads to ---- */
 
-void search(const coder_file *f)
+void search(const coder_file *f, size_t settle)
 {
     arguments a = plain(CALL_SEARCH, f);
 
     forget_verdict();
+    a.settle = settle;
     a.lent_len = SEARCH_BYTES + random_below(4);
     a.result_len += random_below(4);
-    now.coders++;
+    now.searches++;
     compare(&a);
 }
 
-void known_search(const coder_file *f, int is_pair, size_t before, size_t after)
+void known_search(const coder_file *f, size_t settle, int is_pair, size_t before, size_t after)
 {
-    search(f);
+    search(f, settle);
     known_value("whether there is no decoder", (size_t)found->is_pair, (size_t)is_pair);
     if (is_pair)
         return;
@@ -52,6 +53,27 @@ void known_refusal(const arguments *a, size_t number)
     known_value("the number returned", compare(a).returned, number);
 }
 
+void same_reply(const arguments *a, const arguments *b)
+{
+    static uint8_t bytes[LENT_ROOM];
+    reply got = compare(a);
+    size_t returned = got.returned, count = 0, first = 0;
+
+    if (returned == 0) {
+        first = get_field(got.result, 0);
+        count = a->call == CALL_DECODE || a->call == CALL_TABLE ? first : 0;
+        if (count > a->lent_len)
+            return; /* a difference, and counted as one */
+        memcpy(bytes, got.lent, count);
+    }
+    got = compare(b);
+    known_value("the number returned by the second call", got.returned, returned);
+    if (returned != 0 || got.returned != 0)
+        return;
+    known_value("field 0 of the second call", get_field(got.result, 0), first);
+    known_value("the bytes of the second call", (size_t)memcmp(bytes, got.lent, count), 0);
+}
+
 void compare_random(enum call call, const coder_file *f)
 {
     arguments a = random_arguments(call, f);
@@ -81,6 +103,7 @@ static arguments sent_from(const coder_file *f, size_t start, uint8_t *input)
 
     a.before = found->before;
     a.after = found->after;
+    a.settle = found->settle;
     n = a.before + a.after + random_below(200);
     random_letters(n, c.inputs);
     memcpy(input, letters_room, n);
@@ -90,27 +113,42 @@ static arguments sent_from(const coder_file *f, size_t start, uint8_t *input)
     return a;
 }
 
+/* The bytes that fewer than p letters stand ahead of are written over the letters at their places,
+   as the enumerator has them. Returns 0 where its allowance does not suffice. */
+static int first_bytes(const coder *c, const arguments *a, uint8_t *input)
+{
+    size_t k;
+
+    allow_steps(ANSWER_STEPS);
+    for (k = 0; k < a->settle && k < a->lent_len; k++)
+        input[a->before + k] = window_byte(c, a->before, a->after, a->bytes + k);
+    return !steps_used_up();
+}
+
 void round_trip(const coder_file *f)
 {
     static uint8_t input[1024];
-    coder c = coder_of_file(f->bytes);
+    coder c = settled_coder(f->bytes, found->settle);
     arguments a;
     size_t start;
 
     if (!found->known || found->is_pair)
         return;
-    a = sent_from(f, c.start[random_below(c.starts)], input);
-    compare_known(&a, input + a.before, a.lent_len);
+    a = sent_from(f, c.reachable.state[random_below(c.reachable.count)], input);
+    if (first_bytes(&c, &a, input))
+        compare_known(&a, input + a.before, a.lent_len);
+    else
+        now.answers_left++;
     start = random_below(c.states);
-    if (is_start(&c, start))
+    if (in_list(&c.reachable, start))
         return;
     a = sent_from(f, start, input);
     compare(&a);
 }
 
-void compare_both_ways(const coder_file *f, size_t most)
+void compare_both_ways(const coder_file *f, size_t settle, size_t most)
 {
-    coder c = coder_of_file(f->bytes);
+    coder c = settled_coder(f->bytes, settle);
     uint8_t fails[MOST_WINDOW];
     size_t n, b;
 
@@ -152,12 +190,13 @@ void all_runs(const coder_file *f, size_t most)
             }
 }
 
-void all_windows(const coder_file *f, size_t most)
+void all_windows(const coder_file *f, size_t settle, size_t most)
 {
     coder c = coder_of_file(f->bytes);
     arguments a = plain(CALL_WINDOW, f);
     size_t n, k;
 
+    a.settle = settle;
     for (n = 1; n <= most; n++)
         for (a.before = 0; a.before < n; a.before++) {
             a.after = n - 1 - a.before;
@@ -169,12 +208,13 @@ void all_windows(const coder_file *f, size_t most)
         }
 }
 
-void all_strings(const coder_file *f, size_t window, size_t most)
+void all_strings(const coder_file *f, size_t settle, size_t window, size_t most)
 {
     coder c = coder_of_file(f->bytes);
     arguments a = plain(CALL_DECODE, f);
     size_t n, k;
 
+    a.settle = settle;
     for (a.before = 0; a.before < window; a.before++)
         for (a.after = 0; a.before + a.after < window; a.after++)
             for (n = 0; n <= most; n++)
@@ -186,11 +226,12 @@ void all_strings(const coder_file *f, size_t window, size_t most)
                 }
 }
 
-void all_tables(const coder_file *f, size_t most)
+void all_tables(const coder_file *f, size_t settle, size_t most)
 {
     coder c = coder_of_file(f->bytes);
     arguments a = plain(CALL_TABLE, f);
 
+    a.settle = settle;
     for (a.before = 0; a.before < most; a.before++)
         for (a.after = 0; a.before + a.after < most; a.after++) {
             a.lent_len = power(c.outputs, a.before + 1 + a.after) + a.before % 2;
@@ -198,11 +239,11 @@ void all_tables(const coder_file *f, size_t most)
         }
 }
 
-void whole_table(const coder_file *f, size_t before, size_t after)
+void whole_table(const coder_file *f, size_t before, size_t after, size_t settle)
 {
     static uint8_t wanted[MOST_TABLE];
     arguments a = plain(CALL_TABLE, f);
-    coder c = coder_of_file(f->bytes);
+    coder c = settled_coder(f->bytes, settle);
     size_t bytes = table_bytes(c.outputs, before + 1 + after), k;
 
     if (bytes > MOST_TABLE) {
@@ -219,6 +260,7 @@ void whole_table(const coder_file *f, size_t before, size_t after)
     }
     a.before = before;
     a.after = after;
+    a.settle = settle;
     a.lent_len = bytes + 1;
     compare_known(&a, wanted, bytes);
 }

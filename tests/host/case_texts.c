@@ -95,9 +95,10 @@ static void count_case(void)
     now.cases++;
 }
 
-static void put_call(enum order order, size_t lent)
+static void put_call(enum order order, size_t settle, size_t lent)
 {
-    put("%s into %zu = ", order == LEAST_LOOKAHEAD ? "least_lookahead" : "fewest_letters", lent);
+    put("%s %zu into %zu = ", order == LEAST_LOOKAHEAD ? "least_lookahead" : "fewest_letters",
+        settle, lent);
     count_case();
 }
 
@@ -131,9 +132,9 @@ static void put_buffer(size_t lent, const uint8_t *bytes, size_t len)
     put("\n");
 }
 
-void text_refusal(enum order order, size_t lent, size_t number)
+void text_refusal(enum order order, size_t settle, size_t lent, size_t number)
 {
-    put_call(order, lent);
+    put_call(order, settle, lent);
     put("refused %zu", number);
     put_buffer(lent, NULL, 0);
 }
@@ -145,15 +146,16 @@ static void put_pair(size_t lent, const pair *p)
     put_buffer(lent, p->letters, 2 * pair_letters(p));
 }
 
-void text_answer(enum order order, size_t lent, const least *window, const first_pair *first)
+void text_answer(enum order order, size_t settle, size_t lent, const least *window,
+                 const first_pair *first)
 {
     known_value("whether there is a looped pair", first->exists, window->works == NO ? YES : NO);
-    put_call(order, lent);
+    put_call(order, settle, lent);
     if (first->exists == YES) {
         put_pair(lent, &first->pair);
         return;
     }
-    put("window %zu %zu", window->before, window->after);
+    put("window %zu %zu %zu", window->before, window->after, settle);
     put_buffer(lent, NULL, 0);
 }
 

@@ -13,10 +13,12 @@ void open_texts(const char *folder);
 /* The coder file of the cases after it; it stands in one text with them. */
 void text_file(const uint8_t *file, size_t len);
 
-/* The search in this order, lent so many bytes, and what it gives: a refusal; or the first window
-   that works; or, where it is known that none works, the first looped pair. */
-void text_refusal(enum order order, size_t lent, size_t number);
-void text_answer(enum order order, size_t lent, const least *window, const first_pair *first);
+/* The search in this order and with this settle count, lent so many bytes, and what it gives: a
+   refusal; or the first window that works; or, where it is known that none works, the first looped
+   pair. */
+void text_refusal(enum order order, size_t settle, size_t lent, size_t number);
+void text_answer(enum order order, size_t settle, size_t lent, const least *window,
+                 const first_pair *first);
 
 /* The reader's two calls on the file, which is accepted: these counts and entries. */
 void text_reader(const size_t counts[3], const uint8_t *entries, size_t len);

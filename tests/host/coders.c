@@ -175,6 +175,34 @@ void change_entry(coder_file *f)
     random_entry(f, random_below(f->bytes[3]), random_below(f->bytes[4]));
 }
 
+/* ---- lines ---- */
+
+void make_silent_line(coder_file *f, size_t line, const coder_file *end)
+{
+    size_t states = end->bytes[3], inputs = end->bytes[4], outputs = end->bytes[5], k;
+
+    begin_file(f, line + states, inputs, outputs + 1);
+    for (k = 0; k < line * inputs; k++)
+        put_entry(f, k / inputs, k % inputs, k / inputs + 1, outputs);
+    for (k = 0; k < states * inputs; k++)
+        put_entry(f, line + k / inputs, k % inputs, line + end->bytes[6 + 2 * k],
+                  end->bytes[7 + 2 * k]);
+}
+
+void make_telling_line(coder_file *f, size_t line)
+{
+    size_t k, i;
+
+    begin_file(f, line + 2, 2, 6);
+    for (i = 0; i < 2; i++) {
+        for (k = 0; k + 1 < line; k++)
+            put_entry(f, k, i, k + 1, 4 + i);
+        put_entry(f, line - 1, i, line + i, 0);
+        put_entry(f, line, i, line, i);
+        put_entry(f, line + 1, i, line + 1, 2 + i);
+    }
+}
+
 /* ---- chains ---- */
 
 /* Output letters of all chains: 0 for the shift, d for turn d; the padding comes after. */

@@ -28,23 +28,24 @@ static size_t call_library(const arguments *a, const uint8_t *file, const uint8_
         return lowhenita_run(file, a->file_len, a->start, bytes, a->bytes_len, lent, a->lent_len,
                              result, a->result_len);
     case CALL_SEARCH:
-        return lowhenita_search(file, a->file_len, lent, a->lent_len, result, a->result_len);
+        return lowhenita_search(file, a->file_len, a->settle, lent, a->lent_len, result,
+                                a->result_len);
     case CALL_DECODE:
-        return lowhenita_decode(file, a->file_len, a->before, a->after, bytes, a->bytes_len, lent,
-                                a->lent_len, result, a->result_len);
+        return lowhenita_decode(file, a->file_len, a->before, a->after, a->settle, bytes,
+                                a->bytes_len, lent, a->lent_len, result, a->result_len);
     case CALL_CHECK:
         return lowhenita_check(file, a->file_len, a->pair.s, a->pair.t, a->pair.back_loop,
                                a->pair.lead_in, a->pair.lead_out, a->pair.forward_loop, bytes,
                                a->bytes_len, result, a->result_len);
     case CALL_WINDOW:
-        return lowhenita_window(file, a->file_len, a->before, a->after, bytes, a->bytes_len, result,
-                                a->result_len);
+        return lowhenita_window(file, a->file_len, a->before, a->after, a->settle, bytes,
+                                a->bytes_len, result, a->result_len);
     case CALL_WRITE:
         return lowhenita_write(a->counts[0], a->counts[1], a->counts[2], bytes, a->bytes_len, lent,
                                a->lent_len, result, a->result_len);
     default:
-        return lowhenita_table(file, a->file_len, a->before, a->after, lent, a->lent_len, result,
-                               a->result_len);
+        return lowhenita_table(file, a->file_len, a->before, a->after, a->settle, lent, a->lent_len,
+                               result, a->result_len);
     }
 }
 

@@ -6,7 +6,7 @@
 #include "enumerator.h"
 
 enum {
-    NUMBERS = 14,          /* what a call returns: 0 and the refusals 1 to 13 */
+    NUMBERS = 15,          /* what a call returns: 0 and the refusals 1 to 14 */
     MOST_RUNS = 30000,     /* runs grouped by output string for one length of window */
     PAIR_STEPS = 20000,    /* steps for one window by pairs of runs */
     FIRST_STEPS = 100000,  /* steps for one first pair of a small coder by trying */
@@ -16,7 +16,7 @@ enum {
 /* ---- counts.c ---- */
 
 typedef struct counts {
-    unsigned long coders, comparisons;
+    unsigned long coders, searches, comparisons;
     unsigned long decoders, longest_window, pairs, longest_pair;
     unsigned long windows, windows_left, refuted, answers_left;
     unsigned long firsts, firsts_left;
@@ -69,7 +69,7 @@ reply compare_known(const arguments *a, const uint8_t *bytes, size_t count);
 
 /* ---- trying.c ---- */
 
-/* A coder that is kept, to know whether another one comes. */
+/* A coder that is kept, without a settle count, to know whether another one comes. */
 typedef struct kept_coder {
     size_t states, inputs, outputs;
     uint8_t entries[2 * MOST_STATES * MOST_INPUTS];
@@ -81,12 +81,12 @@ int another_coder(kept_coder *kept, const coder *c);
 /* The bound of a side of a window that is reported: N (N + 1) / 2. */
 size_t side_bound(const coder *c);
 
-/* Whether the window fails. */
+/* Whether the window fails, with the coder's settle count. */
 enum answer window_fails(const coder *c, size_t before, size_t after);
 
 /* ---- first_pairs.c ---- */
 
-/* The first looped pair of a coder, by exact numbers of letters. */
+/* The first looped pair of a coder, by exact numbers of letters; no settle count is in it. */
 const first_pair *first_pair_of(const coder *c);
 
 /* The same by trying, within so many steps, compared with it. */
@@ -100,7 +100,7 @@ int same_letters(const pair *one, const pair *other);
 
 typedef struct verdict {
     int known, is_pair;
-    size_t before, after;
+    size_t before, after, settle;
     pair pair;
     size_t letters;
     uint8_t bytes[SEARCH_BYTES];

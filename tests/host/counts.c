@@ -34,6 +34,8 @@ void end_group(void)
     printf("%s: %lu comparisons", group_name, now.comparisons);
     if (now.coders)
         printf(", %lu coders", now.coders);
+    if (now.searches)
+        printf(", %lu searches", now.searches);
     if (now.decoders)
         printf(", %lu windows found (up to %lu letters)", now.decoders, now.longest_window);
     if (now.pairs)
@@ -88,11 +90,11 @@ static void print_call(const arguments *a)
 {
     const pair *p = &a->pair;
 
-    printf("  lowhenita_%s: start %zu, before %zu, after %zu, pair %zu %zu "
+    printf("  lowhenita_%s: start %zu, before %zu, after %zu, settle %zu, pair %zu %zu "
            "lengths %zu %zu %zu %zu, counts %zu %zu %zu, lent %zu, result %zu\n",
-           call_name(a->call), a->start, a->before, a->after, p->s, p->t, p->back_loop, p->lead_in,
-           p->lead_out, p->forward_loop, a->counts[0], a->counts[1], a->counts[2], a->lent_len,
-           a->result_len);
+           call_name(a->call), a->start, a->before, a->after, a->settle, p->s, p->t, p->back_loop,
+           p->lead_in, p->lead_out, p->forward_loop, a->counts[0], a->counts[1], a->counts[2],
+           a->lent_len, a->result_len);
     print_bytes("file", a->file, a->file_len);
     print_bytes("letters or entries", a->bytes, a->bytes_len);
 }

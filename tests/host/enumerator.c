@@ -1,76 +1,14 @@
-/* The brute-force enumerator: the coder of a file, its start states and runs, and what an accepted
-   call writes. */
+/* The brute-force enumerator: the coder of a file, its runs, and what an accepted call writes. */
 #include "enumerator.h"
-
-#include <string.h>
-
-/* ---- the states in which a run starts ---- */
-
-/* Tries all strings that go on from one that has come into this state. A string is given up where
-   another one has come into the same state before: it would reach nothing new. */
-static void try_strings(const coder *c, size_t state, uint8_t *reached)
-{
-    size_t i;
-
-    if (reached[state])
-        return;
-    reached[state] = 1;
-    for (i = 0; i < c->inputs; i++)
-        try_strings(c, next_state(c, state, i), reached);
-}
-
-static void list_starts(coder *c)
-{
-    uint8_t reached[MOST_STATES] = {0};
-    size_t s;
-
-    try_strings(c, 0, reached);
-    c->starts = 0;
-    for (s = 0; s < c->states; s++)
-        if (reached[s])
-            c->start[c->starts++] = s;
-}
-
-int is_start(const coder *c, size_t state)
-{
-    size_t k;
-
-    for (k = 0; k < c->starts; k++)
-        if (c->start[k] == state)
-            return 1;
-    return 0;
-}
-
-/* Every string of exactly n letters, as a number to base I, from state 0. */
-static void try_every_string(const coder *c, size_t n, size_t strings, uint8_t *reached)
-{
-    size_t r, k;
-
-    for (r = 0; r < strings; r++) {
-        size_t state = 0, rest = r;
-
-        for (k = 0; k < n; k++, rest /= c->inputs)
-            state = next_state(c, state, rest % c->inputs);
-        reached[state] = 1;
-    }
-}
-
-int reached_by_strings(const coder *c, size_t letters, size_t most, uint8_t *reached)
-{
-    size_t strings = 1, n;
-
-    memset(reached, 0, MOST_STATES);
-    for (n = 0; n <= letters; n++, strings *= c->inputs) {
-        if (strings > most)
-            return 0;
-        try_every_string(c, n, strings, reached);
-    }
-    return 1;
-}
 
 /* ---- the coder and its runs ---- */
 
 coder coder_of_file(const uint8_t *file)
+{
+    return settled_coder(file, 0);
+}
+
+coder settled_coder(const uint8_t *file, size_t settle)
 {
     coder c;
 
@@ -78,7 +16,8 @@ coder coder_of_file(const uint8_t *file)
     c.inputs = file[4];
     c.outputs = file[5];
     c.entries = file + 6;
-    list_starts(&c);
+    list_reachable(&c);
+    list_starts(&c, settle);
     return c;
 }
 
@@ -159,7 +98,7 @@ int expected_answer(const arguments *a, uint8_t *lent, uint8_t *result)
         put_field(result, 0, put_file(a, lent));
         return 1;
     }
-    c = coder_of_file(a->file);
+    c = settled_coder(a->file, a->settle);
     switch (a->call) {
     case CALL_RUN:
         put_field(result, 1, follow_run(&c, a->start, a->bytes, a->bytes_len, lent));

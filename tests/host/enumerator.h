@@ -12,19 +12,29 @@ enum {
     MOST_OUTPUTS = 64,
     MOST_SIDE = 136,
     MOST_WINDOW = 2 * MOST_SIDE + 1,
+    MOST_SETTLE = 64,
     MOST_TABLE = 65536,
     SEARCH_BYTES = 1026,
     MOST_PAIR = SEARCH_BYTES / 2,
     RESULT_BYTES = 64
 };
 
+/* Some states, in the order of their numbers. */
+typedef struct state_list {
+    size_t count, state[MOST_STATES];
+} state_list;
+
 /* The coder of an accepted file: its three counts and its entries, two bytes each; and the states
-   in which a run starts, those that some input string reaches from state 0 (document 02, 5/13), in
-   the order of their numbers. */
+   that some input string reaches from state 0 (document 02, 5/13), in which a run starts. Besides,
+   the settle count of the windows that are looked at (document 02, 6/13), and their start states:
+   a window's run is in one of them at the window's first letter, so many letters after it started
+   in a reachable state. With settle count 0 these are the reachable states. */
 typedef struct coder {
     size_t states, inputs, outputs;
     const uint8_t *entries;
-    size_t starts, start[MOST_STATES];
+    state_list reachable;
+    size_t settle;
+    state_list starts;
 } coder;
 
 /* Two runs in step; the letters are two bytes each, first run, second run. */
@@ -44,6 +54,7 @@ typedef struct arguments {
     size_t file_len;
     size_t start;           /* run */
     size_t before, after;   /* decode, window, table */
+    size_t settle;          /* search, decode, window, table */
     pair pair;              /* check, without its letters */
     size_t counts[3];       /* write: states, inputs, outputs */
     const uint8_t *bytes;   /* input of the run, letters of the check, received letters, entries */
@@ -69,17 +80,11 @@ size_t full_windows(const arguments *a);
 
 /* ---- enumerator.c ---- */
 
-/* The coder of a file that is not refused, and one entry of it. */
+/* The coder of a file that is not refused, with settle count 0 and with any; one entry of it. */
 coder coder_of_file(const uint8_t *file);
+coder settled_coder(const uint8_t *file, size_t settle);
 size_t next_state(const coder *c, size_t state, size_t input);
 size_t output_letter(const coder *c, size_t state, size_t input);
-
-/* Whether a run starts in this state. */
-int is_start(const coder *c, size_t state);
-
-/* The states that the strings of up to so many letters reach, every string tried: reached[s] becomes
-   1 for these. Returns 0, with nothing said, where there are more strings than given. */
-int reached_by_strings(const coder *c, size_t letters, size_t most, uint8_t *reached);
 
 /* The run from a state: writes n output letters, returns the end state. */
 size_t follow_run(const coder *c, size_t start, const uint8_t *input, size_t n, uint8_t *output);
@@ -95,6 +100,25 @@ int expected_answer(const arguments *a, uint8_t *lent, uint8_t *result);
 void put_field(uint8_t *result, size_t k, uint64_t value);
 uint64_t get_field(const uint8_t *result, size_t k);
 
+/* ---- enumerator_starts.c ---- */
+
+/* Whether the state is in the list. */
+int in_list(const state_list *l, size_t state);
+
+/* Fills in the reachable states; the settle count and, once these are known, the start states. */
+void list_reachable(coder *c);
+void list_starts(coder *c, size_t settle);
+
+/* The states that the strings of up to so many letters reach, every string tried: reached[s] becomes
+   1 for these. Returns 0, with nothing said, where there are more strings than given. */
+int reached_by_strings(const coder *c, size_t letters, size_t most, uint8_t *reached);
+
+/* The states in which runs of exactly so many letters from reachable states end: ended[s] becomes 1
+   for these. By every string, 0 being returned where there are more than given; and letter by
+   letter. */
+int ended_by_strings(const coder *c, size_t letters, size_t most, uint8_t *ended);
+void ended_by_letters(const coder *c, size_t letters, uint8_t *ended);
+
 /* ---- enumerator_windows.c ---- */
 
 /* Three answers: the enumeration may end at its allowance before it knows. */
@@ -107,8 +131,8 @@ int steps_used_up(void);
 /* Takes one step; 0 where none is left. */
 int take_step(void);
 
-/* All runs of n letters grouped by output string: fails[b] becomes 1 where two runs have equal
-   outputs and different letters at place b. Returns 0, with nothing said, where there are more
+/* All runs of a window of n letters grouped by output string: fails[b] becomes 1 where two runs have
+   equal outputs and different letters at place b. Returns 0, with nothing said, where there are more
    runs than given or more than 131,072 strings. */
 int fails_by_groups(const coder *c, size_t n, size_t most, uint8_t *fails);
 

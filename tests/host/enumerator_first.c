@@ -85,9 +85,9 @@ int each_valid_pair(const coder *c, size_t letters, int (*take)(const pair *p, v
     r.p.letters = r.bytes;
     r.take = take;
     r.to = to;
-    for (k = 0; k < c->starts * c->starts; k++) {
-        r.p.s = c->start[k / c->starts];
-        r.p.t = c->start[k % c->starts];
+    for (k = 0; k < c->reachable.count * c->reachable.count; k++) {
+        r.p.s = c->reachable.state[k / c->reachable.count];
+        r.p.t = c->reachable.state[k % c->reachable.count];
         if (try_lengths(&r))
             return 1;
     }

@@ -92,14 +92,15 @@ static void list_letter(const coder *c, size_t u, size_t v, size_t i)
 
 static void list_steps(const coder *c)
 {
+    const state_list *of = &c->reachable;
     size_t k, i;
 
     pairs = c->states * c->states;
     memset(any, 0, pairs * sizeof *any);
     memset(apart, 0, pairs * sizeof *apart);
-    for (k = 0; k < c->starts * c->starts; k++)
+    for (k = 0; k < of->count * of->count; k++)
         for (i = 0; i < c->inputs; i++)
-            list_letter(c, c->start[k / c->starts], c->start[k % c->starts], i);
+            list_letter(c, of->state[k / of->count], of->state[k % of->count], i);
 }
 
 /* The pairs to which a step leads from the set, and those from which one leads into it. */

@@ -31,7 +31,7 @@ int pair_valid(const coder *c, const pair *p)
 {
     size_t marked = marked_place(p), state[2], begin[2];
 
-    if (!is_start(c, p->s) || !is_start(c, p->t))
+    if (!in_list(&c->reachable, p->s) || !in_list(&c->reachable, p->t))
         return 0;
     if (p->back_loop == 0 || p->forward_loop == 0)
         return 0;

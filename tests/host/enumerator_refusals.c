@@ -64,6 +64,11 @@ static int sides_too_large(const arguments *a)
     return a->before > MOST_SIDE || a->after > MOST_SIDE;
 }
 
+static int settle_too_large(const arguments *a)
+{
+    return a->settle > MOST_SETTLE;
+}
+
 /* Whether the bytes are twice the letters of the pair, without adding what could wrap. */
 static int pair_bytes_match(const arguments *a)
 {
@@ -139,6 +144,8 @@ static size_t refusal_of_run(const arguments *a, const coder *c)
 
 static size_t refusal_of_search(const arguments *a)
 {
+    if (settle_too_large(a))
+        return 14;
     if (a->lent_len < SEARCH_BYTES || a->result_len < RESULT_BYTES)
         return 11;
     return 0;
@@ -148,6 +155,8 @@ static size_t refusal_of_decode(const arguments *a, const coder *c)
 {
     if (sides_too_large(a))
         return 8;
+    if (settle_too_large(a))
+        return 14;
     if (a->lent_len < full_windows(a) || a->result_len < RESULT_BYTES)
         return 11;
     if (some_letter_from(a->bytes, a->bytes_len, c->outputs))
@@ -172,6 +181,8 @@ static size_t refusal_of_window(const arguments *a, const coder *c)
 {
     if (sides_too_large(a))
         return 8;
+    if (settle_too_large(a))
+        return 14;
     if (a->bytes_len != a->before + 1 + a->after)
         return 9;
     if (a->result_len < RESULT_BYTES)
@@ -187,6 +198,8 @@ static size_t refusal_of_table(const arguments *a, const coder *c)
 
     if (sides_too_large(a))
         return 8;
+    if (settle_too_large(a))
+        return 14;
     letters = a->before + 1 + a->after;
     if (letters > longest_window(c->outputs))
         return 10;

@@ -28,7 +28,8 @@ int take_step(void)
 
 /* ---- all runs, grouped by output string ---- */
 
-enum { MOST_WORDS = 1 << 17 };
+/* MOST_OUTRIGHT: runs with the letters ahead of the window, of one length of window. */
+enum { MOST_WORDS = 1 << 17, MOST_OUTRIGHT = 4096 };
 
 /* n-th power, or 0 above the limit. */
 static size_t limited_power(size_t base, size_t n, size_t limit)
@@ -43,12 +44,33 @@ static size_t limited_power(size_t base, size_t n, size_t limit)
     return power;
 }
 
-/* Run number r of n letters: its letters, and its output string as a number to base O. */
-static size_t numbered_run(const coder *c, size_t r, size_t n, uint8_t *letters)
-{
-    size_t state = c->start[r % c->starts], word = 0, k;
+/* The runs of a window: from which states, and how many letters ahead of the window they begin. */
+typedef struct origin {
+    const state_list *from;
+    size_t ahead;
+} origin;
 
-    r /= c->starts;
+/* In a reachable state, and so many letters ahead as the settle count says, where there are at most
+   so many runs; else in a start state at the window's first letter. */
+static origin origin_of(const coder *c, size_t n, size_t most)
+{
+    origin o = {&c->reachable, c->settle};
+
+    if (limited_power(c->inputs, c->settle + n, most / c->reachable.count) == 0) {
+        o.from = &c->starts;
+        o.ahead = 0;
+    }
+    return o;
+}
+
+/* Run number r: its n letters in the window, and its output string there as a number to base O. */
+static size_t numbered_run(const coder *c, const origin *o, size_t r, size_t n, uint8_t *letters)
+{
+    size_t state = o->from->state[r % o->from->count], word = 0, k;
+
+    r /= o->from->count;
+    for (k = 0; k < o->ahead; k++, r /= c->inputs)
+        state = next_state(c, state, r % c->inputs);
     for (k = 0; k < n; k++) {
         letters[k] = (uint8_t)(r % c->inputs);
         r /= c->inputs;
@@ -79,9 +101,10 @@ int fails_by_groups(const coder *c, size_t n, size_t most, uint8_t *fails)
 {
     static uint32_t first[MOST_WORDS];
     const size_t step = 1000003;
-    size_t inputs = limited_power(c->inputs, n, most);
+    const origin o = origin_of(c, n, MOST_OUTRIGHT);
+    size_t inputs = limited_power(c->inputs, o.ahead + n, most);
     size_t words = limited_power(c->outputs, n, MOST_WORDS);
-    size_t runs = inputs * c->starts, marked = 0, r = 0, k;
+    size_t runs = inputs * o.from->count, marked = 0, r = 0, k;
     uint8_t letters[64], earlier[64];
 
     memset(fails, 0, n);
@@ -89,12 +112,12 @@ int fails_by_groups(const coder *c, size_t n, size_t most, uint8_t *fails)
         return 0;
     memset(first, 0, words * sizeof *first);
     for (k = 0; k < runs && marked < n; k++) {
-        size_t word = numbered_run(c, r, n, letters);
+        size_t word = numbered_run(c, &o, r, n, letters);
 
         if (first[word] == 0) {
             first[word] = (uint32_t)(r + 1);
         } else {
-            numbered_run(c, first[word] - 1, n, earlier);
+            numbered_run(c, &o, first[word] - 1, n, earlier);
             marked += mark_differences(letters, earlier, n, fails);
         }
         r = (r + step) % runs;
@@ -119,8 +142,11 @@ static int first_time(tried *d, size_t s, size_t t)
 }
 
 /* The entries that a run can follow, out of each state or into it: the state at the other end, the
-   output. A run that starts in a reachable state stays in such states. */
+   output. A run that starts in a reachable state stays in such states. last[s]: whether what is
+   followed may come to its end in s; against the run's direction that is the window's first letter,
+   and s a start state. */
 typedef struct ends {
+    uint8_t last[MOST_STATES];
     size_t count[MOST_STATES];
     uint8_t other[MOST_STATES][MOST_STATES * MOST_INPUTS];
     uint8_t output[MOST_STATES][MOST_STATES * MOST_INPUTS];
@@ -140,13 +166,16 @@ static void list_entries(const coder *c, ends *out, ends *in)
 
     memset(out->count, 0, sizeof out->count);
     memset(in->count, 0, sizeof in->count);
-    for (k = 0; k < c->starts; k++)
-        for (i = 0; i < c->inputs; i++) {
-            size_t s = c->start[k];
+    for (k = 0; k < c->reachable.count; k++) {
+        size_t s = c->reachable.state[k];
 
+        out->last[s] = 1;
+        in->last[s] = (uint8_t)in_list(&c->starts, s);
+        for (i = 0; i < c->inputs; i++) {
             add_entry(out, s, next_state(c, s, i), output_letter(c, s, i));
             add_entry(in, next_state(c, s, i), s, output_letter(c, s, i));
         }
+    }
 }
 
 /* Whether two runs of n letters out of these states, or into them, have equal outputs. */
@@ -156,7 +185,7 @@ static int two_runs(const ends *e, size_t s, size_t t, size_t n)
     size_t i, j;
 
     if (n == 0)
-        return 1;
+        return e->last[s] && e->last[t];
     if (!take_step())
         return 0;
     for (i = 0; i < e->count[s]; i++)
@@ -184,12 +213,13 @@ static int runs_around(const coder *c, const ends *out, const ends *in, size_t b
 enum answer works_by_pairs(const coder *c, size_t before, size_t after)
 {
     static ends out, in;
+    const state_list *of = &c->reachable;
     size_t from[2], by[2], k;
 
     list_entries(c, &out, &in);
-    for (k = 0; k < c->starts * c->starts; k++) {
-        from[0] = c->start[k / c->starts];
-        from[1] = c->start[k % c->starts];
+    for (k = 0; k < of->count * of->count; k++) {
+        from[0] = of->state[k / of->count];
+        from[1] = of->state[k % of->count];
         for (by[1] = 1; by[1] < c->inputs; by[1]++)
             for (by[0] = 0; by[0] < by[1]; by[0]++) {
                 if (runs_around(c, &out, &in, before, after, from, by))
@@ -241,8 +271,8 @@ static enum answer letter_fits(const coder *c, size_t before, size_t after, cons
     q.letters = before + 1 + after;
     q.marked = before;
     q.letter = letter;
-    for (k = 0; k < c->starts; k++)
-        if (run_matches(&q, c->start[k], 0))
+    for (k = 0; k < c->starts.count; k++)
+        if (run_matches(&q, c->starts.state[k], 0))
             return YES;
     return steps_used_up() ? UNKNOWN : NO;
 }

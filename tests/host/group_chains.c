@@ -8,11 +8,14 @@
 /* The most states for which the enumerator finds the least windows. */
 enum { ENUMERATED = 6 };
 
-/* What is known of a chain besides its verdict being judged. */
+/* What is known of a chain besides its verdict being judged. Every state of a chain is entered from
+   one of its states, so each settle count gives the same windows; one is taken at random. */
 static void chain_window(const coder_file *f, const least known[ORDERS])
 {
-    known_search(f, 0, known[LEAST_LOOKAHEAD].before, known[LEAST_LOOKAHEAD].after);
-    name_known_orders(f, known, f->bytes[3] <= ENUMERATED);
+    size_t settle = random_settle();
+
+    known_search(f, settle, 0, known[LEAST_LOOKAHEAD].before, known[LEAST_LOOKAHEAD].after);
+    name_known_orders(f, settle, known, f->bytes[3] <= ENUMERATED);
     round_trip(f);
     compare_some_of_each(f);
 }
@@ -20,9 +23,10 @@ static void chain_window(const coder_file *f, const least known[ORDERS])
 static void chain_loop(const coder_file *f)
 {
     const least none[ORDERS] = {{NO, 0, 0}, {NO, 0, 0}};
+    size_t settle = random_settle();
 
-    known_search(f, 1, 0, 0);
-    name_known_orders(f, none, f->bytes[3] <= ENUMERATED);
+    known_search(f, settle, 1, 0, 0);
+    name_known_orders(f, settle, none, f->bytes[3] <= ENUMERATED);
     compare_some_of_each(f);
 }
 
@@ -76,7 +80,7 @@ static void random_either_chain(coder_file *f, size_t states)
 void group_changed_chains(void)
 {
     coder_file f;
-    size_t k, n, turns;
+    size_t k, n, turns, settle;
 
     begin_group("chains with some entries changed");
     for (k = 0; k < 2000; k++) {
@@ -102,9 +106,10 @@ void group_changed_chains(void)
         do
             change_entry(&f);
         while (random_below(2));
-        search(&f);
+        settle = k % 2 ? random_settle() : 0;
+        search(&f, settle);
         if (n <= ENUMERATED)
-            name_orders(&f);
+            name_orders(&f, settle);
         round_trip(&f);
         compare_some_of_each(&f);
     }

@@ -115,7 +115,7 @@ static void damage_given_count(arguments *a, size_t k)
     a->counts[k] = random_below(4) == 0 ? 0 : number_from(most[k] + 1);
 }
 
-/* A number of the call: a start state, a side, a length, a count. */
+/* A number of the call: a start state, a side, a settle count, a length, a count. */
 static void damage_number(arguments *a)
 {
     size_t *const lengths[4] = {&a->pair.back_loop, &a->pair.lead_in, &a->pair.lead_out,
@@ -133,6 +133,8 @@ static void damage_number(arguments *a)
         else
             *lengths[k] = random_below(2) ? number_from(256)
                                           : *lengths[k] + 1 - 2 * random_below(2);
+    } else if (a->call == CALL_SEARCH || random_below(3) == 0) {
+        a->settle = number_from(MOST_SETTLE + 1);
     } else {
         *sides[k % 2] = k < 2 ? number_from(MOST_SIDE + 1) : random_below(MOST_SIDE + 1);
     }
@@ -193,10 +195,10 @@ static void damage(arguments *a)
 static void check_reach(void)
 {
     static const char *const reach[CALLS] = {
-        [CALL_RUN]    = "11111111000110", [CALL_SEARCH] = "11111110000100",
-        [CALL_DECODE] = "11111110100101", [CALL_CHECK]  = "11111111010110",
-        [CALL_WINDOW] = "11111110110101", [CALL_TABLE]  = "11111110101100",
-        [CALL_WRITE]  = "10001110000100"
+        [CALL_RUN]    = "111111110001100", [CALL_SEARCH] = "111111100001001",
+        [CALL_DECODE] = "111111101001011", [CALL_CHECK]  = "111111110101100",
+        [CALL_WINDOW] = "111111101101011", [CALL_TABLE]  = "111111101011001",
+        [CALL_WRITE]  = "100011100001000"
     };
     int call, k;
 
@@ -222,7 +224,7 @@ void group_damaged(const char *name, size_t faults, size_t count)
 
             make_random(&f, 1 + random_below(large ? 16 : 4), 1 + random_below(large ? 16 : 3),
                         1 + random_below(large ? 64 : 3));
-            search(&f);
+            search(&f, random_settle());
         }
         a = random_arguments((enum call)(k % CALLS), &f);
         memset(file_room, 0, sizeof file_room);

@@ -65,7 +65,7 @@ static void known_orders(const example *e)
     least known[ORDERS];
 
     known_windows(e, known);
-    name_known_orders(&e->file, known, 1);
+    name_known_orders(&e->file, 0, known, 1);
 }
 
 static void known_values(const example *e)
@@ -74,7 +74,7 @@ static void known_values(const example *e)
     static const uint8_t file_a[14] = {1, 0, 11, 2, 2, 2, 0, 0, 1, 1, 1, 1, 0, 0};
     coder c = coder_of_file(e->file.bytes);
 
-    known_search(&e->file, e->pair, e->before, e->after);
+    known_search(&e->file, 0, e->pair, e->before, e->after);
     if (e->pair) {
         known_pair(e->first);
         known_letters(e->letters, sizeof e->letters);
@@ -111,7 +111,7 @@ static void known_values(const example *e)
 void group_examples(void)
 {
     example e;
-    size_t k;
+    size_t k, p;
 
     begin_group("examples A to H");
     try_verdicts(1, 1, 1, FIRST_STEPS);
@@ -119,12 +119,14 @@ void group_examples(void)
         make_example(k, &e);
         known_values(&e);
         round_trip(&e.file);
-        compare_both_ways(&e.file, 7);
         all_runs(&e.file, 6);
-        all_windows(&e.file, e.file.bytes[5] > 2 ? 4 : 7);
-        all_strings(&e.file, 3, e.file.bytes[5] > 2 ? 4 : 6);
-        all_tables(&e.file, e.file.bytes[5] > 2 ? 5 : 9);
         all_pairs(&e.file, 3);
+        for (p = 0; p < 3; p++) {
+            compare_both_ways(&e.file, p, 7);
+            all_windows(&e.file, p, e.file.bytes[5] > 2 ? 4 : 7);
+            all_strings(&e.file, p, 3, e.file.bytes[5] > 2 ? 4 : 6);
+            all_tables(&e.file, p, e.file.bytes[5] > 2 ? 5 : 9);
+        }
     }
     end_group();
 }

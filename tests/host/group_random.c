@@ -2,6 +2,7 @@
 #include "calls.h"
 #include "groups.h"
 #include "named_orders.h"
+#include "settles.h"
 
 void group_random(void)
 {
@@ -11,11 +12,16 @@ void group_random(void)
     begin_group("random coders with N up to 4, I up to 3, O up to 6");
     try_verdicts(1, 1, 1, FIRST_STEPS);
     for (k = 0; k < 20000; k++) {
+        size_t settle = random_settle();
+
         make_random(&f, 1 + random_below(4), 1 + random_below(3), 1 + random_below(6));
-        search(&f);
-        name_orders(&f);
+        search(&f, 0);
+        name_orders(&f, 0);
         round_trip(&f);
         compare_some_of_each(&f);
+        search_further(&f, settle);
+        name_orders(&f, settle);
+        round_trip(&f);
     }
     end_group();
 }
@@ -29,7 +35,10 @@ void group_random_large(void)
     for (k = 0; k < 4000; k++) {
         try_verdicts(1, 0, k % 40 == 0, FIRST_STEPS / 10);
         make_random(&f, 1 + random_below(16), 1 + random_below(16), 1 + random_below(64));
-        search(&f);
+        search(&f, 0);
+        round_trip(&f);
+        try_verdicts(1, 0, 0, 0);
+        search_further(&f, random_settle());
         round_trip(&f);
         compare_some_of_each(&f);
     }

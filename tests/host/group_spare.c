@@ -1,4 +1,4 @@
-/* Spare states, which no input string reaches from state 0 (document 02, 5/13): the start states
+/* Spare states, which no input string reaches from state 0 (document 02, 5/13): the reachable states
    found in two ways; coders padded with spare states, at the end and between their own, with which
    every call that studies the coder, and a run from a reachable state, gives what it gives without
    them; states that only the longest strings reach; pairs that start in a spare state. */
@@ -8,12 +8,12 @@
 
 #include <string.h>
 
-/* ---- the start states ---- */
+/* ---- the reachable states ---- */
 
 enum { MOST_STRINGS = 1 << (MOST_STATES - 1) };
 
 /* N - 1 letters reach every state that can be reached: a shortest string passes no state twice. */
-static void compare_starts(const coder_file *f)
+static void compare_reachable(const coder_file *f)
 {
     coder c = coder_of_file(f->bytes);
     uint8_t reached[MOST_STATES];
@@ -24,7 +24,8 @@ static void compare_starts(const coder_file *f)
         return;
     }
     for (s = 0; s < c.states; s++)
-        known_value("whether a string reaches the state", (size_t)is_start(&c, s), reached[s]);
+        known_value("whether a string reaches the state", (size_t)in_list(&c.reachable, s),
+                    reached[s]);
 }
 
 /* All next states with these counts and one output letter: no decoder where there are two input
@@ -36,9 +37,9 @@ static void all_next_states(size_t states, size_t inputs, size_t every)
 
     for (k = 0; k < coders_with(states, inputs, 1); k++) {
         make_numbered(&f, states, inputs, 1, k);
-        compare_starts(&f);
+        compare_reachable(&f);
         if (k % every == 0)
-            search(&f);
+            search(&f, random_settle());
     }
 }
 
@@ -68,13 +69,13 @@ static void make_padded(const coder_file *f, size_t states, int between, coder_f
 }
 
 /* The verdict on the padded coder is that on the coder, its start states moved. */
-static void same_verdict(const coder_file *f, const coder_file *g, int between)
+static void same_verdict(const coder_file *f, const coder_file *g, size_t settle, int between)
 {
     verdict of_f;
 
-    search(f);
+    search(f, settle);
     of_f = *found;
-    search(g);
+    search(g, settle);
     known_value("whether padding keeps the kind of verdict", (size_t)found->is_pair,
                 (size_t)of_f.is_pair);
     if (of_f.is_pair) {
@@ -90,41 +91,18 @@ static void same_verdict(const coder_file *f, const coder_file *g, int between)
     }
 }
 
-/* A call on the coder, and then on the padded one with the same arguments: the number returned,
-   field 0 and the bytes that it counts are the same. */
-static void same_reply(const arguments *a, const coder_file *g)
-{
-    static uint8_t bytes[LENT_ROOM];
-    arguments b = *a;
-    reply got = compare(a);
-    size_t returned = got.returned, count, first;
-
-    if (returned != 0) {
-        b.file = g->bytes;
-        b.file_len = g->len;
-        known_value("the number returned", compare(&b).returned, returned);
-        return;
-    }
-    first = get_field(got.result, 0);
-    count = a->call == CALL_DECODE || a->call == CALL_TABLE ? first : 0;
-    memcpy(bytes, got.lent, count);
-    b.file = g->bytes;
-    b.file_len = g->len;
-    got = compare(&b);
-    known_value("the number returned for the padded coder", got.returned, 0);
-    known_value("field 0 for the padded coder", get_field(got.result, 0), first);
-    known_value("the bytes for the padded coder", (size_t)memcmp(bytes, got.lent, count), 0);
-}
-
+/* The calls on the coder, and then on the padded one with the same arguments. */
 static void same_replies(const coder_file *f, const coder_file *g)
 {
     static const enum call calls[3] = {CALL_DECODE, CALL_WINDOW, CALL_TABLE};
-    arguments a;
+    arguments a, b;
     size_t k;
 
     for (k = 0; k < 3; k++) {
-        a = random_arguments(calls[k], f);
-        same_reply(&a, g);
+        a = b = random_arguments(calls[k], f);
+        b.file = g->bytes;
+        b.file_len = g->len;
+        same_reply(&a, &b);
     }
 }
 
@@ -136,7 +114,7 @@ static void same_check(const coder_file *f, const coder_file *g, int between)
     reply got;
     size_t judged;
 
-    search(f);
+    search(f, 0);
     a = random_arguments(CALL_CHECK, f);
     got = compare(&a);
     known_value("the number returned for a pair of the coder", got.returned, 0);
@@ -159,7 +137,7 @@ static void same_run(const coder_file *f, const coder_file *g, int between)
     size_t end;
     reply got;
 
-    a.start = c.start[random_below(c.starts)];
+    a.start = c.reachable.state[random_below(c.reachable.count)];
     got = compare(&a);
     memcpy(sent, got.lent, a.bytes_len);
     end = get_field(got.result, 1);
@@ -171,28 +149,38 @@ static void same_run(const coder_file *f, const coder_file *g, int between)
     known_value("the end state of the padded coder", get_field(got.result, 1), moved(end, between));
 }
 
-/* Every state of the padded coder that is not one of the coder's is spare, and so are those that
-   are spare there. */
-static void same_starts(const coder_file *f, const coder_file *g, int between)
+static void same_states(const char *what, const state_list *of, const state_list *padded,
+                        int between)
 {
-    coder c = coder_of_file(f->bytes), d = coder_of_file(g->bytes);
     size_t k;
 
-    known_value("the number of start states", d.starts, c.starts);
-    for (k = 0; k < c.starts; k++)
-        known_value("a start state", d.start[k], moved(c.start[k], between));
+    known_value(what, padded->count, of->count);
+    for (k = 0; k < of->count; k++)
+        known_value(what, padded->state[k], moved(of->state[k], between));
 }
 
-/* `known`: the least windows of the coder, where they are known; the padded one has them too. */
+/* Every state of the padded coder that is not one of the coder's is spare, and so are those that
+   are spare there. The start states of windows are those of the coder too. */
+static void same_starts(const coder_file *f, const coder_file *g, size_t settle, int between)
+{
+    coder c = settled_coder(f->bytes, settle), d = settled_coder(g->bytes, settle);
+
+    same_states("the reachable states", &c.reachable, &d.reachable, between);
+    same_states("the start states", &c.starts, &d.starts, between);
+}
+
+/* `known`: the least windows of the coder with settle count 0, where they are known; the padded one
+   has them too. */
 static void pad(const coder_file *f, size_t states, int between, const least *known)
 {
+    size_t settle = known ? 0 : random_settle();
     coder_file g;
 
     make_padded(f, states, between, &g);
-    same_starts(f, &g, between);
-    same_verdict(f, &g, between);
+    same_starts(f, &g, settle, between);
+    same_verdict(f, &g, settle, between);
     if (known)
-        name_known_orders(&g, known, 0);
+        name_known_orders(&g, settle, known, 0);
     round_trip(&g);
     same_check(f, &g, between);
     same_run(f, &g, between);
@@ -254,8 +242,8 @@ static void lines(size_t n, int way, size_t on)
 
     for (k = 0; k < n; k++) {
         make_line(&f, n, k, way, on);
-        compare_starts(&f);
-        known_search(&f, k + 1 == n, 0, 0);
+        compare_reachable(&f);
+        known_search(&f, random_settle(), k + 1 == n, 0, 0);
         if (k + 1 == n) {
             known_pair(numbers);
             known_letters(letters, sizeof letters);

@@ -34,9 +34,10 @@ static void allowed(const coder_file *f, size_t before, size_t after)
 
     a.before = before;
     a.after = after;
+    a.settle = random_settle();
     a.lent_len = table_bytes(f->bytes[5], before + 1 + after) - 1;
     known_refusal(&a, 11);
-    whole_table(f, before, after);
+    whole_table(f, before, after, a.settle);
 }
 
 /* Refused with this number, with much room, with no room, and with a short result. */
@@ -46,6 +47,7 @@ static void refused(const coder_file *f, size_t before, size_t after, size_t num
 
     a.before = before;
     a.after = after;
+    a.settle = random_settle();
     a.lent_len = LENT_ROOM;
     known_refusal(&a, number);
     a.lent_len = 0;
@@ -97,7 +99,8 @@ void group_table_limit(void)
     }
     for (k = 0; k < 3; k++) {
         make_example(of[k], &e);
-        whole_table(&e.file, before[k], 15 - before[k]);
+        whole_table(&e.file, before[k], 15 - before[k], 0);
+        whole_table(&e.file, before[k], 15 - before[k], 1);
     }
     known_value("the number of tables left out", now.answers_left, 0);
     end_group();

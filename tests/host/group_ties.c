@@ -122,7 +122,7 @@ void group_ties(void)
     try_verdicts(0, 0, 0, FIRST_STEPS);
     for (k = 0; k < 12000; k++) {
         make_random(&f, 3 + random_below(3), 2 + random_below(2), 2 + random_below(2));
-        search(&f);
+        search(&f, random_settle());
         unfinished += !count_ties(&f, decided);
     }
     judge_ties(decided, unfinished);

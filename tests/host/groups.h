@@ -18,6 +18,8 @@ void group_ties(void);
 void group_writer(void);
 void group_table_limit(void);
 void group_spare(void);
+void group_settle_limit(void);
+void group_settle(void);
 void group_orders(void);
 
 #endif

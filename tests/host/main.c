@@ -7,11 +7,15 @@
    coders the windows that come before the one found, the cut pair of every 40th, and the first pair
    with a smaller allowance; for the spare states the windows before and the first pair, with a
    smaller allowance still; for the chains, as much as their number of states allows; for the edges
-   and the coders with ties, the first pair; for the other groups nothing.
+   and the coders with ties, the first pair; for the lines of the settle counts, the windows before;
+   for the other groups nothing. That is for settle count 0. Of the second searches, with a larger
+   settle count, those of the small random coders try all of it, and those of the other small coders
+   and of the large random ones the windows before.
 
    Cases in named orders (named_orders.c) are written for the examples, padded ones too, all small
-   coders, the small random ones, the chains, and the changed chains of up to 6 states; cases of the
-   reader and of the writer (group_writer.c) for the examples and for random coders. */
+   coders, the small random ones, the chains, the changed chains of up to 6 states, and the lines of
+   the settle counts; cases of the reader and of the writer (group_writer.c) for the examples and for
+   random coders. */
 #include "case_texts.h"
 #include "coders.h"
 #include "compare.h"
@@ -52,6 +56,8 @@ int main(int count, char **words)
     group_writer();
     group_table_limit();
     group_spare();
+    group_settle_limit();
+    group_settle();
     group_orders();
     return end_groups();
 }

@@ -15,7 +15,7 @@ static int two_windows(const least in_order[ORDERS])
         && (one->before != other->before || one->after != other->after);
 }
 
-static void write_cases(const coder_file *f, const least in_order[ORDERS])
+static void write_cases(const coder_file *f, size_t settle, const least in_order[ORDERS])
 {
     coder c = coder_of_file(f->bytes);
     int order;
@@ -26,7 +26,8 @@ static void write_cases(const coder_file *f, const least in_order[ORDERS])
         if (in_order[order].works == UNKNOWN)
             now.cases_left++;
         else
-            text_answer((enum order)order, SEARCH_BYTES + 4, &in_order[order], first_pair_of(&c));
+            text_answer((enum order)order, settle, SEARCH_BYTES + 4, &in_order[order],
+                        first_pair_of(&c));
 }
 
 static void same_window(const least *got, const least *wanted)
@@ -46,13 +47,13 @@ void known_windows(const example *e, least known[ORDERS])
     known[FEWEST_LETTERS] = letters;
 }
 
-void name_orders(const coder_file *f)
+void name_orders(const coder_file *f, size_t settle)
 {
-    coder c = coder_of_file(f->bytes);
+    coder c = settled_coder(f->bytes, settle);
     least in_order[ORDERS], reported;
 
     least_windows(&c, in_order);
-    write_cases(f, in_order);
+    write_cases(f, settle, in_order);
     reported.works = found->is_pair ? NO : YES;
     reported.before = found->before;
     reported.after = found->after;
@@ -60,13 +61,13 @@ void name_orders(const coder_file *f)
         same_window(&reported, &in_order[LEAST_LOOKAHEAD]);
 }
 
-void name_known_orders(const coder_file *f, const least known[ORDERS], int enumerate)
+void name_known_orders(const coder_file *f, size_t settle, const least known[ORDERS], int enumerate)
 {
-    coder c = coder_of_file(f->bytes);
+    coder c = settled_coder(f->bytes, settle);
     least in_order[ORDERS];
     int order;
 
-    write_cases(f, known);
+    write_cases(f, settle, known);
     if (!enumerate)
         return;
     least_windows(&c, in_order);

@@ -14,7 +14,8 @@ typedef struct least {
     size_t before, after;
 } least;
 
-/* The first window that works in each order; sides up to N (N + 1) / 2 are tried. */
+/* The first window with the coder's settle count that works in each order; sides up to
+   N (N + 1) / 2 are tried. */
 void least_windows(const coder *c, least in_order[ORDERS]);
 
 #endif

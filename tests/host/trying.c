@@ -3,8 +3,8 @@
    A window is tried by all runs of its length, grouped by output string, as long as there are at
    most MOST_RUNS of them; beyond that by all pairs of runs around its present letter, with
    PAIR_STEPS steps at most. That a larger window works where a smaller one does is used nowhere.
-   The windows of one coder are kept until another coder comes, and none is tried or counted
-   twice. */
+   The windows of one coder and settle count are kept until another coder or settle count comes, and
+   none is tried or counted twice. */
 #include "compare.h"
 
 #include <string.h>
@@ -12,6 +12,7 @@
 enum way { NOT_YET, BY_GROUPS, BY_PAIRS };
 
 static kept_coder kept;
+static size_t kept_settle;
 
 /* For each length the way, and by groups what they say of every window of it; for each window, by
    its letters and its letters before, whether it was tried and whether it fails. */
@@ -39,6 +40,12 @@ int another_coder(kept_coder *k, const coder *c)
     return 1;
 }
 
+static void forget_windows(void)
+{
+    memset(ways, 0, sizeof ways);
+    memset(tried, 0, sizeof tried);
+}
+
 static enum answer try_window(const coder *c, size_t before, size_t after)
 {
     size_t n = before + 1 + after;
@@ -57,10 +64,9 @@ enum answer window_fails(const coder *c, size_t before, size_t after)
 {
     size_t n = before + 1 + after;
 
-    if (another_coder(&kept, c)) {
-        memset(ways, 0, sizeof ways);
-        memset(tried, 0, sizeof tried);
-    }
+    if (another_coder(&kept, c) || kept_settle != c->settle)
+        forget_windows();
+    kept_settle = c->settle;
     if (!tried[n][before]) {
         tried[n][before] = 1;
         answers[n][before] = try_window(c, before, after);

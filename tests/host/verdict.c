@@ -1,5 +1,5 @@
-/* The verdict of a search, judged. The search reports the window with least lookahead and, among
-   those that work, with fewest letters before.
+/* The verdict of a search, judged. The search reports, of the windows with its settle count, the one
+   with least lookahead and, among those that work, with fewest letters before.
 
    A window that the search gives is tried, and so is the one with a letter before less. Where there
    is a looped pair, the search has to give the first one, every number and letter of it, and the
@@ -166,11 +166,12 @@ static void want_pair(const pair *p, uint8_t *wanted_lent, uint8_t *wanted_resul
 void judge_search(const arguments *a, const uint8_t *lent, const uint8_t *result,
                   uint8_t *wanted_lent, uint8_t *wanted_result)
 {
-    coder c = coder_of_file(a->file);
+    coder c = settled_coder(a->file, a->settle);
     const first_pair *first = first_pair_of(&c);
     uint64_t kind = get_field(result, 0);
 
     memset(&latest, 0, sizeof latest);
+    latest.settle = a->settle;
     if (first->exists == YES)
         want_pair(&first->pair, wanted_lent, wanted_result);
     if (kind != (first->exists == YES) || first->exists == UNKNOWN)

@@ -47,17 +47,17 @@ pub(crate) struct Request {
 }
 
 // The forms of the lines, in the order of the calls' numbers: `#` stands for a number, `@` for a list of bytes, a space for blanks.
-fn forms() -> [u8; 230] {
+fn forms() -> [u8; 242] {
     *b"run # on @into # = \n\
-    string # # on @into # = \n\
-    table # # into # = \n\
+    string # # # on @into # = \n\
+    table # # # into # = \n\
     write # # # on @into # = \n\
-    search into # = \n\
-    least_lookahead into # = \n\
-    fewest_letters into # = \n\
+    search # into # = \n\
+    least_lookahead # into # = \n\
+    fewest_letters # into # = \n\
     counts = \n\
     entries = \n\
-    window # # on @= \n\
+    window # # # on @= \n\
     check # # # # # # on @= \n\
     file @\n"
 }

@@ -49,14 +49,14 @@ fn counted(r: CountResult) -> Got {
 }
 
 // The search that a line asks for: in the order that it names, or in the default order.
-fn searched(file: &[u8], asked: usize, lent: &mut [u8]) -> search::SearchResult {
+fn searched(file: &[u8], asked: usize, settle: usize, lent: &mut [u8]) -> search::SearchResult {
     if asked == asking::LEAST_LOOKAHEAD {
-        return search::search_in_order(file, Order::LeastLookahead, lent);
+        return search::search_in_order(file, Order::LeastLookahead, settle, lent);
     }
     if asked == asking::FEWEST_LETTERS {
-        return search::search_in_order(file, Order::FewestLetters, lent);
+        return search::search_in_order(file, Order::FewestLetters, settle, lent);
     }
-    search::search(file, lent)
+    search::search(file, settle, lent)
 }
 
 // A looped pair: its start states and its lengths.
@@ -73,11 +73,11 @@ fn pair(p: LoopedPair) -> Got {
 }
 
 // What a search gave.
-fn search(file: &[u8], asked: usize, lent: &mut [u8]) -> Got {
-    match searched(file, asked, lent) {
+fn search(file: &[u8], asked: usize, settle: usize, lent: &mut [u8]) -> Got {
+    match searched(file, asked, settle, lent) {
         search::SearchResult::Refused(k) => got::short(got::REFUSED_BUFFER, k, 0, 0),
         search::SearchResult::Found(v) => match v {
-            search::Verdict::Least(w) => got::short(got::LEAST, w.before, w.after, 0),
+            search::Verdict::Least(w) => got::short(got::LEAST, w.before, w.after, w.settle),
             search::Verdict::NoDecoder(p) => pair(p),
         },
     }
@@ -102,8 +102,9 @@ fn plain(q: Request, file: &[u8], input: &[u8]) -> Got {
     }
     if q.call == asking::WINDOW {
         let w = Window {
-            before: q.e,
-            after: q.f,
+            before: q.d,
+            after: q.e,
+            settle: q.f,
         };
         return window(file, w, input);
     }
@@ -124,8 +125,9 @@ fn plain(q: Request, file: &[u8], input: &[u8]) -> Got {
 // A call with its lent buffer.
 pub(crate) fn make(q: Request, file: &[u8], input: &[u8], lent: &mut [u8]) -> Got {
     let w = Window {
-        before: q.d,
-        after: q.e,
+        before: q.c,
+        after: q.d,
+        settle: q.e,
     };
     if q.call == asking::RUN {
         return run(file, q.e, input, lent);
@@ -141,7 +143,7 @@ pub(crate) fn make(q: Request, file: &[u8], input: &[u8], lent: &mut [u8]) -> Go
     }
     // The search, and those that name an order.
     if q.call <= asking::FEWEST_LETTERS {
-        return search(file, q.call, lent);
+        return search(file, q.call, q.e, lent);
     }
     plain(q, file, input)
 }

@@ -63,7 +63,7 @@ pub(crate) fn short(form: usize, a: usize, b: usize, c: usize) -> Got {
 }
 
 // The forms, in the order of their numbers: `#` stands for a space and a number, `@` for a list of bytes with a space before each.
-fn forms() -> [u8; 226] {
+fn forms() -> [u8; 227] {
     *b"refused#\n\
     refused#, buffer@\n\
     coder###\n\
@@ -73,7 +73,7 @@ fn forms() -> [u8; 226] {
     letter#\n\
     none\n\
     several\n\
-    window##, buffer@\n\
+    window###, buffer@\n\
     yes\n\
     no\n\
     no decoder######, buffer@\n\

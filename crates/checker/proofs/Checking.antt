@@ -9,9 +9,10 @@ use borrow.Author.Tests.{ltb-true, eqb-true}
 use Rattle.mealy.specs.Machine.{Letters}
 use Rattle.mealy.specs.Setting.{worded}
 use Rattle.mealy.specs.LoopedPair.{LoopedPair, letters, Valid}
-use Rattle.mealy.proofs.SameSettings.{valid-same, same-sym}
+use Rattle.mealy.proofs.SameSettings.{valid-same, same-sym, same-trans}
+use Rattle.mealy.proofs.StartStates.{same-zero}
 use Rattle.coder.specs.Refusal.{refuse, lettersBelow}
-use Rattle.coder.specs.File.{fileRefusal, statesOf, inputsOf, settingOf}
+use Rattle.coder.specs.File.{fileRefusal, statesOf, inputsOf, settingOf, machineOf}
 use Rattle.coder.specs.Table.{coderOf, machineOfCoder}
 use Rattle.coder.specs.declared.inner.tables.Coder.{Coder}
 use Rattle.coder.proofs.Refusals.{both-true, refuse-not, first-none, letters-below}
@@ -78,8 +79,8 @@ module _ {c : Coder} {f : List ℕ} {p : LoopedPair} {fit : Bool} (e : c ≡ cod
 
   -- what is judged in the setting of the words is judged in that of the file
   pub file-judged :
-      {starts : ℕ} {conflicts : List ℕ} {answer : Bool} → WordsOf c starts conflicts →
+      {starts : ℕ} {conflicts : List ℕ} {answer : Bool} → WordsOf c 0 starts conflicts →
       Judges (Valid (worded (machineOfCoder c) starts conflicts) p) answer → Judges (Valid (settingOf f) p) answer
   file-judged w =
-      let m = same-setting e (accepted f (r .file)) w in
+      let m = same-trans (same-setting e (accepted f (r .file)) w) (same-sym (same-zero (machineOf f))) in
       judges-map (valid-same m p) (valid-same (same-sym m) p)

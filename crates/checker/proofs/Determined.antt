@@ -17,7 +17,7 @@ use Rattle.coder.proofs.Judging.{judges-same, judges-decided}
 use Rattle.coder.proofs.Refusals.{upon-refused, upon-done}
 use Rattle.checker.proofs.Checking.{check-accepted, right}
 use Rattle.mealy.proofs.PairDecisions.{dec-valid}
-use Rattle.mealy.proofs.Plain.{dec-conflict}
+use Rattle.mealy.proofs.LeastOrNone.{dec-conflict}
 
 module _ (f : List ℕ) (p : LoopedPair) where
   judged : {r : CheckResult} → (a : CheckedRight f p r) → Judges (Valid (settingOf f) p) (a .answer)

@@ -18,7 +18,7 @@ pub fn checked(file: &[u8], pair: LoopedPair, letters: &[u8]) -> bool
     ensures { λ r. ⌜ Judges (Valid (settingOf (now (file .entry))) (pairOf pair (now (letters .entry)))) r ⌝ }
 {
     let c = Coder::from_checked(file);
-    let starts = starts::inner::start_states(c);
+    let starts = starts::inner::start_states(c, 0);
     let conflicts = setting::inner::different_letters();
     follow::valid(&c.next, &c.output, starts, &conflicts, pair, letters)
 }

@@ -156,7 +156,7 @@ module _ (f : List ℕ) (a : Accepted f) where
   unfolding machineOf
   some-state = a .entries .limits .states-low
 
-  -- a start state is a state, and whether a number is one can be decided
+  -- a reachable state is a state, and whether a number is one can be decided
   pub file-bounded : Bounded (settingOf f)
   file-bounded = reachable-bounded (machineOf f) total some-state
 

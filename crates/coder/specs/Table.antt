@@ -6,7 +6,7 @@ use mathlib.Core.List.{List, [], _∷_}
 use lib.ListN.{length, getD}
 use lib.Dec.{ltb}
 use Rattle.mealy.specs.Machine.{Machine}
-use Rattle.coder.specs.Limits.{maxStates, maxInputs, maxOutputs, maxSide}
+use Rattle.coder.specs.Limits.{maxStates, maxInputs, maxOutputs, maxSide, maxSettle}
 use Rattle.coder.specs.File.{statesOf, inputsOf, outputsOf, entriesOf, entryOf}
 use Rattle.coder.specs.declared.inner.tables.Coder.{Coder}
 use Rattle.coder.specs.declared.inner.tables.Limits.{Limits}
@@ -16,9 +16,9 @@ unfoldable pub table : ℕ → (ℕ → ℕ) → List ℕ
 table zero p = []
 table (suc n) p = p 0 ∷ table n (λ k. p (suc k))
 
--- The four limits, as the code has them.
+-- The limits, as the code has them.
 abbrev pub limitsOf : Limits
-limitsOf = record { states = maxStates; inputs = maxInputs; outputs = maxOutputs; side = maxSide }
+limitsOf = record { states = maxStates; inputs = maxInputs; outputs = maxOutputs; side = maxSide; settle = maxSettle }
 
 -- A table of entries: the entry of state s and letter x stands at 16 s + x, and the other places hold 0. Offset 0 has the next
 -- states, offset 1 the output letters.

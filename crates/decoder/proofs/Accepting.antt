@@ -8,7 +8,7 @@ use lib.ListN.{length}
 use lib.Dec.{lit<, leb, eqb}
 use borrow.Author.Tests.{leb-true, eqb-true}
 use Rattle.mealy.specs.Machine.{Letters}
-use Rattle.coder.specs.Limits.{maxSide}
+use Rattle.coder.specs.Limits.{maxSide, maxSettle}
 use Rattle.coder.specs.Refusal.{refuse, lettersBelow}
 use Rattle.coder.specs.File.{fileRefusal, outputsOf}
 use Rattle.coder.proofs.Refusals.{both-true, refuse-not, first-none, letters-below}
@@ -18,28 +18,29 @@ use Rattle.table_size.specs.Cases.{tableAllowed}
 use Rattle.table_size.proofs.Exact.{cases-exact}
 use Rattle.values.specs.Window.{size}
 use Rattle.values.specs.declared.Window.{Window}
-use Rattle.decoder.specs.Refusal.{sidesRefusal, SidesSmall, windowRefusal, stringRefusal, tableSize, tableRefusal}
+use Rattle.decoder.specs.Refusal.{limitsRefusal, SidesSmall, windowRefusal, stringRefusal, tableSize, tableRefusal}
 use Rattle.decoder.specs.Places.{places, stringRefusalIn, StringAsked}
 use Rattle.decoder.specs.Table.{tableRefusalIn, TableAsked}
 
--- the file and the two sides, which every call checks first
-pub record SidesAccepted (f : List ℕ) (w : Window) : Type 0 where
+-- the file and the three numbers of a window, which every call checks first
+pub record LimitsAccepted (f : List ℕ) (w : Window) : Type 0 where
   pub file : fileRefusal f ≡ 0
   pub small : SidesSmall w
 
-pub sides-accepted : (f : List ℕ) (w : Window) → sidesRefusal f w ≡ 0 → SidesAccepted f w
-unfolding sidesRefusal
-sides-accepted f w e =
+pub limits-accepted : (f : List ℕ) (w : Window) → limitsRefusal f w ≡ 0 → LimitsAccepted f w
+unfolding limitsRefusal
+limits-accepted f w e =
     let t = (leb (w .before) maxSide && leb (w .after) maxSide) in
-    let p = first-none (fileRefusal f) (refuse (not t) 8 0) e in
-    let q = refuse-not t _ _ (lit< tt) (p .1) in
+    let rest = refuse (not (leb (w .settle) maxSettle)) 14 0 in
+    let p = first-none (fileRefusal f) (refuse (not t) 8 rest) e in
+    let q = refuse-not t 8 rest (lit< tt) (p .1) in
     let s = both-true (leb (w .before) maxSide) (leb (w .after) maxSide) (q .0) in
     record { file = p .0; small = record { before-small = leb-true _ _ (s .0); after-small = leb-true _ _ (s .1) } }
 
 -- ---- one window
 
 pub record WindowAccepted (f : List ℕ) (w : Window) (received : List ℕ) (fit : Bool) : Type 0 where
-  pub sides : SidesAccepted f w
+  pub limits : LimitsAccepted f w
   pub long : length received ≡ size w
   pub fits : fit ≡ true
   pub letters : Letters (outputsOf f) received
@@ -51,12 +52,12 @@ unfolding windowRefusal
 window-accepted f w received fit e =
     let n = eqb (length received) (size w) in
     let l = lettersBelow (outputsOf f) received in
-    let p = first-none (sidesRefusal f w) (refuse (not n) 9 (refuse (not fit) 11 (refuse (not l) 13 0))) e in
+    let p = first-none (limitsRefusal f w) (refuse (not n) 9 (refuse (not fit) 11 (refuse (not l) 13 0))) e in
     let q = refuse-not n _ _ (lit< tt) (p .1) in
     let h = refuse-not fit _ _ (lit< tt) (q .1) in
     let s = refuse-not l _ _ (lit< tt) (h .1) in
     record {
-      sides = sides-accepted f w (p .0);
+      limits = limits-accepted f w (p .0);
       long = eqb-true _ _ (q .0);
       fits = h .0;
       letters = letters-below (outputsOf f) received (s .0);
@@ -65,7 +66,7 @@ window-accepted f w received fit e =
 -- ---- a string
 
 pub record StringAccepted (f : List ℕ) (w : Window) (received : List ℕ) (fit : Bool) : Type 0 where
-  pub sides : SidesAccepted f w
+  pub limits : LimitsAccepted f w
   pub fits : fit ≡ true
   pub letters : Letters (outputsOf f) received
 
@@ -75,10 +76,10 @@ pub string-accepted :
 unfolding stringRefusal
 string-accepted f w received fit e =
     let l = lettersBelow (outputsOf f) received in
-    let p = first-none (sidesRefusal f w) (refuse (not fit) 11 (refuse (not l) 13 0)) e in
+    let p = first-none (limitsRefusal f w) (refuse (not fit) 11 (refuse (not l) 13 0)) e in
     let q = refuse-not fit _ _ (lit< tt) (p .1) in
     let s = refuse-not l _ _ (lit< tt) (q .1) in
-    record { sides = sides-accepted f w (p .0); fits = q .0; letters = letters-below (outputsOf f) received (s .0) }
+    record { limits = limits-accepted f w (p .0); fits = q .0; letters = letters-below (outputsOf f) received (s .0) }
 
 -- a call that is not refused asks its checked part rightly, and its other lent buffers are long enough
 pub string-asked :
@@ -97,7 +98,7 @@ string-others f w received room others e =
 -- ---- a table
 
 pub record TableAccepted (f : List ℕ) (w : Window) (fit : Bool) : Type 0 where
-  pub sides : SidesAccepted f w
+  pub limits : LimitsAccepted f w
   pub small : tableSize (outputsOf f) w ≤ maxTable
   pub fits : fit ≡ true
 
@@ -105,20 +106,20 @@ pub table-accepted : (f : List ℕ) (w : Window) (fit : Bool) → tableRefusal f
 unfolding tableRefusal
 table-accepted f w fit e =
     let n = leb (tableSize (outputsOf f) w) maxTable in
-    let p = first-none (sidesRefusal f w) (refuse (not n) 10 (refuse (not fit) 11 0)) e in
+    let p = first-none (limitsRefusal f w) (refuse (not n) 10 (refuse (not fit) 11 0)) e in
     let q = refuse-not n _ _ (lit< tt) (p .1) in
     let s = refuse-not fit _ _ (lit< tt) (q .1) in
-    record { sides = sides-accepted f w (p .0); small = leb-true _ _ (q .0); fits = s .0 }
+    record { limits = limits-accepted f w (p .0); small = leb-true _ _ (q .0); fits = s .0 }
 
--- the cases on O, where the file and the sides are accepted
+-- the cases on O, where the file and the window's numbers are accepted
 pub table-allowed :
-    (f : List ℕ) (w : Window) → sidesRefusal f w ≡ 0 → tableAllowed (outputsOf f) (size w) ≡ leb (tableSize (outputsOf f) w) maxTable
+    (f : List ℕ) (w : Window) → limitsRefusal f w ≡ 0 → tableAllowed (outputsOf f) (size w) ≡ leb (tableSize (outputsOf f) w) maxTable
 table-allowed f w e =
-    let a = accepted f (sides-accepted f w e .file) in cases-exact (outputsOf f) (size w) (omega (arith, a)) (omega (arith, a))
+    let a = accepted f (limits-accepted f w e .file) in cases-exact (outputsOf f) (size w) (omega (arith, a)) (omega (arith, a))
 
 -- 10 by the cases, and 11
 pub table-by-cases :
-    (f : List ℕ) (w : Window) (t fits : Bool) → sidesRefusal f w ≡ 0 → tableAllowed (outputsOf f) (size w) ≡ t →
+    (f : List ℕ) (w : Window) (t fits : Bool) → limitsRefusal f w ≡ 0 → tableAllowed (outputsOf f) (size w) ≡ t →
     tableRefusal f w fits ≡ refuse (not t) 10 (refuse (not fits) 11 0)
 unfolding tableRefusal
 table-by-cases f w t fits z e = rw (z, ← table-allowed f w z, e)

@@ -11,7 +11,7 @@ use Rattle.mealy.specs.Answer.{byteOf}
 use Rattle.mealy.specs.Index.{windowAt}
 use Rattle.mealy.proofs.Indices.{length-window}
 use Rattle.coder.specs.Refusal.{answer}
-use Rattle.coder.specs.File.{fileRefusal, outputsOf, settingOf}
+use Rattle.coder.specs.File.{fileRefusal, outputsOf, settingAfter}
 use Rattle.coder.specs.Table.{coderOf}
 use Rattle.fitting.specs.Answer.{meaning, RightByte}
 use Rattle.filling.specs.Window.{decoded}
@@ -23,7 +23,7 @@ use Rattle.values.specs.declared.CountResult as count
 use Rattle.decoder.specs.Written.{Written}
 use Rattle.decoder.specs.Count.{CountPromise}
 use Rattle.decoder.specs.Refusal.{windowRefusal}
-use Rattle.decoder.specs.Window.{AnsweredRight, WindowPromise}
+use Rattle.decoder.specs.Window.{windowSetting, AnsweredRight, WindowPromise}
 use Rattle.decoder.specs.Places.{stringRefusalIn, StringPromise}
 use Rattle.decoder.specs.Table.{tableRefusalIn, TablePromise}
 use Rattle.decoder.specs.declared.WindowResult.{WindowResult}
@@ -43,7 +43,7 @@ module _ (f : List ℕ) (w : Window) (received : List ℕ) where
           upon k (λ j. r′ ≡ Refused j) (AnsweredRight f w received r′) → r ≡ r′
       go zero p q =
           p .is
-          ∙ ap (λ v. Answered v) (right-unique (settingOf f) received (w .before) (p .answer) (q .answer) (p .right) (q .right))
+          ∙ ap (λ v. Answered v) (right-unique (windowSetting f w) received (w .before) (p .answer) (q .answer) (p .right) (q .right))
           ∙ sym (q .is)
       go (suc k) p q = p ∙ sym q
 
@@ -55,9 +55,9 @@ module _ (f : List ℕ) (w : Window) (received : List ℕ) where
           (r : WindowResult) × upon k (λ j. r ≡ Refused j) (AnsweredRight f w received r)
       go zero e =
           let h = window-accepted f w received true e in
-          let v = decoded (coderOf f) (startsOf f) received (w .before) in (
+          let v = decoded (coderOf f) (startsOf f (w .settle)) received (w .before) in (
             Answered v,
-            record { answer = v; is = refl; right = file-right f (h .sides .file) received (w .before) (omega (arith, h .long)) },
+            record { answer = v; is = refl; right = file-right f (h .limits .file) (w .settle) received (w .before) (omega (arith, h .long)) },
           )
       go (suc k) e = (Refused (suc k), refl)
 
@@ -79,18 +79,18 @@ bytes-exist Q n before g (suc k) h = (before, refl)
 
 -- ---- calls that write a right byte for each of n parts
 
-module _ (f : List ℕ) (b : ℕ) (part : ℕ → List ℕ) (n k : ℕ) (before : List ℕ) where
+module _ (f : List ℕ) (p b : ℕ) (part : ℕ → List ℕ) (n k : ℕ) (before : List ℕ) where
   abbrev ByteOf : ℕ → ℕ → Type 0
-  ByteOf j v = RightByte (settingOf f) (part j) b v
+  ByteOf j v = RightByte (settingAfter f p) (part j) b v
 
   abbrev Promise : count.CountResult → List ℕ → Type 0
   Promise r after = CountPromise k n ByteOf before r after
 
   parts-determined :
       (r r′ : count.CountResult) (after after′ : List ℕ) → Promise r after → Promise r′ after′ → (r ≡ r′) × (after ≡ after′)
-  parts-determined r r′ after after′ p q = (
-    p .result ∙ sym (q .result),
-    bytes-determined ByteOf n before after after′ k (λ j x y. right-byte-unique (settingOf f) (part j) b) (p .bytes) (q .bytes),
+  parts-determined r r′ after after′ x y = (
+    x .result ∙ sym (y .result),
+    bytes-determined ByteOf n before after after′ k (λ j v u. right-byte-unique (settingAfter f p) (part j) b) (x .bytes) (y .bytes),
   )
 
   parts-exist :
@@ -98,12 +98,13 @@ module _ (f : List ℕ) (b : ℕ) (part : ℕ → List ℕ) (n k : ℕ) (before 
       (r : count.CountResult) × (after : List ℕ) × Promise r after
   parts-exist h =
       let e =
-      bytes-exist ByteOf n before (λ j. byteOf (meaning (decoded (coderOf f) (startsOf f) (part j) b))) k
+      bytes-exist ByteOf n before (λ j. byteOf (meaning (decoded (coderOf f) (startsOf f p) (part j) b))) k
       (λ z.
       let a = h z in (
         a .1,
         λ j l.
-            right-byte (settingOf f) (part j) b (decoded (coderOf f) (startsOf f) (part j) b) (file-right f (a .0) (part j) b (a .2 j l)),
+            right-byte (settingAfter f p) (part j) b (decoded (coderOf f) (startsOf f p) (part j) b)
+            (file-right f (a .0) p (part j) b (a .2 j l)),
       )) in
       (_, e .0, record { result = refl; bytes = e .1 })
 
@@ -113,13 +114,13 @@ module _ (f : List ℕ) (w : Window) (received before : List ℕ) where
   pub string-determined :
       (r r′ : count.CountResult) (after after′ : List ℕ) → StringPromise f w received before r after →
       StringPromise f w received before r′ after′ → (r ≡ r′) × (after ≡ after′)
-  string-determined = parts-determined f (w .before) (λ j. take (size w) (drop j received)) _ _ before
+  string-determined = parts-determined f (w .settle) (w .before) (λ j. take (size w) (drop j received)) _ _ before
 
   pub string-exists : (r : count.CountResult) × (after : List ℕ) × StringPromise f w received before r after
   string-exists =
-      parts-exist f (w .before) (λ j. take (size w) (drop j received)) _ (stringRefusalIn f w received (length before) true) before
+      parts-exist f (w .settle) (w .before) (λ j. take (size w) (drop j received)) _ (stringRefusalIn f w received (length before) true) before
       (λ z. (
-        string-accepted f w received _ z .sides .file,
+        string-accepted f w received _ z .limits .file,
         string-asked f w received before true z .room,
         λ j l.
             let long : length (take (size w) (drop j received)) ≡ size w =
@@ -133,13 +134,13 @@ module _ (f : List ℕ) (w : Window) (before : List ℕ) where
   pub table-determined :
       (r r′ : count.CountResult) (after after′ : List ℕ) → TablePromise f w before r after →
       TablePromise f w before r′ after′ → (r ≡ r′) × (after ≡ after′)
-  table-determined = parts-determined f (w .before) (windowAt (outputsOf f) (size w)) _ _ before
+  table-determined = parts-determined f (w .settle) (w .before) (windowAt (outputsOf f) (size w)) _ _ before
 
   pub table-exists : (r : count.CountResult) × (after : List ℕ) × TablePromise f w before r after
   table-exists =
-      parts-exist f (w .before) (windowAt (outputsOf f) (size w)) _ (tableRefusalIn f w (length before) true) before
+      parts-exist f (w .settle) (w .before) (windowAt (outputsOf f) (size w)) _ (tableRefusalIn f w (length before) true) before
       (λ z. (
-        table-accepted f w _ z .sides .file,
+        table-accepted f w _ z .limits .file,
         table-asked f w before true z .room,
         λ j l. omega (arith, length-window (outputsOf f) (size w) j),
       ))

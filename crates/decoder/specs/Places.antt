@@ -6,19 +6,18 @@ use mathlib.Core.List.{List}
 use lib.ListN.{length, take, drop}
 use lib.Dec.{leb}
 use Rattle.mealy.specs.Machine.{Letters}
-use Rattle.mealy.specs.Setting.{Setting}
 use Rattle.coder.specs.Limits.{maxOutputs}
-use Rattle.coder.specs.File.{settingOf}
 use Rattle.coder.specs.declared.inner.tables.Coder.{Coder}
 use Rattle.values.specs.Window.{size}
 use Rattle.values.specs.declared.Window.{Window}
 use Rattle.values.specs.declared.CountResult.{CountResult}
 use Rattle.fitting.specs.Answer.{RightByte}
-use Rattle.setting.specs.Words.{settingOfCoder}
+use Rattle.setting.specs.Words.{fromWord}
 use Rattle.fitting.specs.Tables.{TablesOf, Tables}
 use Rattle.decoder.specs.Written.{Written}
 use Rattle.decoder.specs.Count.{CountPromise, CountGiven}
 use Rattle.decoder.specs.Refusal.{stringRefusal}
+use Rattle.decoder.specs.Window.{windowSetting}
 
 -- How many places of n received letters have a full window: n − b − a, none where n is below b + 1 + a ("Decoding", the
 -- sentence on strings).
@@ -26,9 +25,9 @@ abbrev pub places : ℕ → Window → ℕ
 places n w = n - (w .before + w .after)
 
 -- v is the right byte for the part of the received letters that starts at place k and has as many letters as the window: that part
--- alone. Its present letter is at place k + b.
-abbrev pub ByteAt : Setting → List ℕ → Window → ℕ → ℕ → Type 0
-ByteAt S received w k v = RightByte S (take (size w) (drop k received)) (w .before) v
+-- alone, whatever stands ahead of it. Its present letter is at place k + b.
+abbrev pub ByteAt : List ℕ → List ℕ → Window → ℕ → ℕ → Type 0
+ByteAt f received w k v = RightByte (windowSetting f w) (take (size w) (drop k received)) (w .before) v
 
 -- the refusal where the lent buffer for the letters has `room` bytes; `others` says whether the other lent buffers are long enough
 abbrev pub stringRefusalIn : List ℕ → Window → List ℕ → ℕ → Bool → ℕ
@@ -37,7 +36,7 @@ stringRefusalIn f w received room others = stringRefusal f w received (leb (plac
 -- The first refusal that applies, or a right byte for each place with a full window.
 abbrev pub StringPromise : List ℕ → Window → List ℕ → List ℕ → CountResult → List ℕ → Type 0
 StringPromise f w received before r after =
-    CountPromise (stringRefusalIn f w received (length before) true) (places (length received) w) (ByteAt (settingOf f) received w)
+    CountPromise (stringRefusalIn f w received (length before) true) (places (length received) w) (ByteAt f received w)
     before r after
 
 -- what the checked part of the call asks: no refusal, and room for each byte
@@ -48,7 +47,7 @@ pub record StringAsked (f : List ℕ) (w : Window) (received before : List ℕ) 
 -- and what it gives
 abbrev pub StringGiven : List ℕ → Window → List ℕ → List ℕ → ℕ → List ℕ → Type 0
 StringGiven f w received before count after =
-    CountGiven (places (length received) w) (ByteAt (settingOf f) received w) before count after
+    CountGiven (places (length received) w) (ByteAt f received w) before count after
 
 -- what the loop over the places asks: m windows of n letters lie in the string, and m bytes in the buffer
 pub record PlacesAsked (next successors predecessors letters : List ℕ) (starts : ℕ) (received : List ℕ) (b n m : ℕ) (before : List ℕ) : Type 0 where
@@ -59,11 +58,11 @@ pub record PlacesAsked (next successors predecessors letters : List ℕ) (starts
   pub room : m ≤ length before
 
 -- and what it does
-abbrev pub PlacesDecoded : Coder → List ℕ → ℕ → ℕ → ℕ → List ℕ → List ℕ → Type 0
-PlacesDecoded c received b n m before after =
-    Written (λ k v. RightByte (settingOfCoder c) (take n (drop k received)) b v) m before after
+abbrev pub PlacesDecoded : Coder → ℕ → List ℕ → ℕ → ℕ → ℕ → List ℕ → List ℕ → Type 0
+PlacesDecoded c starts received b n m before after =
+    Written (λ k v. RightByte (fromWord c starts) (take n (drop k received)) b v) m before after
 
 -- for every coder whose tables these are
 abbrev pub PlacesGiven : List ℕ → List ℕ → List ℕ → List ℕ → ℕ → List ℕ → ℕ → ℕ → ℕ → List ℕ → List ℕ → Type 0
 PlacesGiven next successors predecessors letters starts received b n m before after =
-    (c : Coder) → TablesOf c next successors predecessors letters starts → PlacesDecoded c received b n m before after
+    (c : Coder) → TablesOf c next successors predecessors letters starts → PlacesDecoded c starts received b n m before after

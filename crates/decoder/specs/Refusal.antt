@@ -5,15 +5,19 @@ use mathlib.Core.List.{List}
 use lib.ListN.{length}
 use lib.Dec.{leb, eqb}
 use Rattle.coder.specs.Refusal.{refuse, first, lettersBelow}
-use Rattle.coder.specs.Limits.{maxSide}
+use Rattle.coder.specs.Limits.{maxSide, maxSettle}
 use Rattle.coder.specs.File.{fileRefusal, outputsOf}
 use Rattle.table_size.specs.Size.{maxTable}
 use Rattle.values.specs.Window.{size}
 use Rattle.values.specs.declared.Window.{Window}
 
--- 1 to 6 and 8: what every call with a window is refused for first.
-unfoldable pub sidesRefusal : List ℕ → Window → ℕ
-sidesRefusal f w = first (fileRefusal f) (refuse (not (leb (w .before) maxSide && leb (w .after) maxSide)) 8 0)
+-- 1 to 6, 8 and 14 (document 02, 6/13, last sentence): what every call with a window is refused for first.
+unfoldable pub limitsRefusal : List ℕ → Window → ℕ
+limitsRefusal f w =
+    first (fileRefusal f)
+    (refuse (not (leb (w .before) maxSide && leb (w .after) maxSide)) 8
+    (refuse (not (leb (w .settle) maxSettle)) 14
+    0))
 
 -- Both sides are within the limit.
 pub record SidesSmall (w : Window) : Type 0 where
@@ -24,7 +28,7 @@ pub record SidesSmall (w : Window) : Type 0 where
 -- are long enough is an argument: a call of the library lends none for a single window, a call from C lends its result.
 unfoldable pub windowRefusal : List ℕ → Window → List ℕ → Bool → ℕ
 windowRefusal f w received fits =
-    first (sidesRefusal f w)
+    first (limitsRefusal f w)
     (refuse (not (eqb (length received) (size w))) 9
     (refuse (not fits) 11
     (refuse (not (lettersBelow (outputsOf f) received)) 13
@@ -33,7 +37,7 @@ windowRefusal f w received fits =
 -- A string: then 11 (some lent buffer is too short) and 13.
 unfoldable pub stringRefusal : List ℕ → Window → List ℕ → Bool → ℕ
 stringRefusal f w received fits =
-    first (sidesRefusal f w)
+    first (limitsRefusal f w)
     (refuse (not fits) 11
     (refuse (not (lettersBelow (outputsOf f) received)) 13
     0))
@@ -45,7 +49,7 @@ tableSize o w = o ^ size w
 -- A table: then 10 and 11. The cases on O of document 02, 4/13, say the same as the size (`cases-exact`).
 unfoldable pub tableRefusal : List ℕ → Window → Bool → ℕ
 tableRefusal f w fits =
-    first (sidesRefusal f w)
+    first (limitsRefusal f w)
     (refuse (not (leb (tableSize (outputsOf f) w) maxTable)) 10
     (refuse (not fits) 11
     0))

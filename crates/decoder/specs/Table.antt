@@ -5,17 +5,18 @@ use mathlib.Core.Path.{_≡_}
 use mathlib.Core.List.{List}
 use lib.ListN.{length}
 use lib.Dec.{leb}
-use Rattle.coder.specs.File.{outputsOf, settingOf}
+use Rattle.coder.specs.File.{outputsOf}
 use Rattle.values.specs.Window.{size}
 use Rattle.values.specs.declared.Window.{Window}
 use Rattle.values.specs.declared.CountResult.{CountResult}
 use Rattle.filling.specs.Table.{EntryAt}
 use Rattle.decoder.specs.Count.{CountPromise, CountGiven}
 use Rattle.decoder.specs.Refusal.{tableSize, tableRefusal}
+use Rattle.decoder.specs.Window.{windowSetting}
 
 -- v is the right byte for the window with index k, in the table of a file and a window
 abbrev pub EntryOf : List ℕ → Window → ℕ → ℕ → Type 0
-EntryOf f w k v = EntryAt (settingOf f) (outputsOf f) (size w) (w .before) k v
+EntryOf f w k v = EntryAt (windowSetting f w) (outputsOf f) (size w) (w .before) k v
 
 -- the refusal where the lent buffer for the table has `room` bytes; `others` says whether the other lent buffers are long enough
 abbrev pub tableRefusalIn : List ℕ → Window → ℕ → Bool → ℕ

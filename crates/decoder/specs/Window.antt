@@ -3,7 +3,8 @@ use Prim.Native.Nat.{ℕ}
 use mathlib.Core.Path.{_≡_}
 use mathlib.Core.Bool.{true}
 use mathlib.Core.List.{List}
-use Rattle.coder.specs.File.{settingOf}
+use Rattle.mealy.specs.Setting.{Setting}
+use Rattle.coder.specs.File.{settingAfter}
 use Rattle.coder.specs.Refusal.{upon}
 use Rattle.values.specs.declared.Window.{Window}
 use Rattle.fitting.specs.Answer.{Right}
@@ -12,9 +13,14 @@ use Rattle.decoder.specs.Refusal.{windowRefusal}
 use Rattle.decoder.specs.declared.WindowResult.{WindowResult}
 use Rattle.decoder.specs.declared.WindowResult.the-variants.{Refused, Answered}
 
+-- The setting in which the three calls decode: runs begin as many letters ahead of the window as its settle count says (document 02, 6/13,
+-- third and fourth sentences).
+abbrev pub windowSetting : List ℕ → Window → Setting
+windowSetting f w = settingAfter f (w .settle)
+
 -- the right answer of a file for the letters of a window
 abbrev pub RightOf : List ℕ → Window → List ℕ → Answer → Type 0
-RightOf f w received v = Right (settingOf f) received (w .before) v
+RightOf f w received v = Right (windowSetting f w) received (w .before) v
 
 -- the result is an answer, and it is the right one
 pub record AnsweredRight (f : List ℕ) (w : Window) (received : List ℕ) (r : WindowResult) : Type 0 where

@@ -12,6 +12,7 @@ use lib.Seq.{getD-take, getD-append-add, length-take-le, getD-set-same, getD-set
 use lib.Dec.{eqb, lit<}
 use borrow.Author.Count.{below-more}
 use borrow.Rule.Slice.PartMut.{midOf, postOf, putMid, same-len-mid}
+use Rattle.mealy.specs.Setting.{Bounded}
 use Rattle.mealy.specs.Index.{windowAt}
 use Rattle.mealy.proofs.Indices.{length-window, window-digits}
 use Rattle.mealy.specs.Machine.{Machine}
@@ -23,8 +24,7 @@ use Rattle.coder.specs.Table.{machineOfCoder, Sound}
 use Rattle.coder.specs.declared.inner.tables.Coder.{Coder}
 use Rattle.coder.proofs.Tables.{next-high}
 use Rattle.coder.proofs.Fill.{getD-table}
-use Rattle.setting.specs.Words.{settingOfCoder}
-use Rattle.setting.proofs.Same.{coder-bounded}
+use Rattle.setting.specs.Words.{fromWord}
 use Rattle.fitting.specs.Answer.{meaning, ByteOf, answerOf}
 use Rattle.fitting.proofs.Answers.{byte-right}
 use Rattle.filling.specs.Runs.{Sets, SetAfter, From, EachWord, SetsIn, LetterAfter}
@@ -273,17 +273,17 @@ module _ {next start entries : List ℕ} {outputs : ℕ} {v : List ℕ} {left pr
 
 -- ---- the whole table
 
-module _ (c : Coder) (sound : Sound c) {starts : ℕ} (h : Holds (settingOfCoder c .Start) starts) where
-  pub start-holds : (s : ℕ) → s < c .states → Holds (startingSets (settingOfCoder c) s) (getD (startSets starts) s 0)
+module _ (c : Coder) (sound : Sound c) (starts : ℕ) where
+  pub start-holds : (s : ℕ) → s < c .states → Holds (startingSets (fromWord c starts) s) (getD (startSets starts) s 0)
   start-holds s l =
       let n = sound .states-high in
       let low : s < 16 = omega arith in
       rw (getD-table 16 (startSet starts) s low)
       (elim (ℕ-discrete (startSet starts s) 1) [
-        | yes e ↦ rw e (holds-one 0 (lit< tt) (h .only s low e, refl) (λ y q. q .1))
+        | yes e ↦ rw e (holds-one 0 (lit< tt) (e, refl) (λ y q. q .1))
         | no e ↦
             let z : startSet starts s ≡ 0 = omega arith in
-            rw z (holds-none (λ y q. e (h .has s (q .0))))
+            rw z (holds-none (λ y q. e (q .0)))
       ])
 
 start-words : (starts : ℕ) → EachWord (startSets starts)
@@ -307,9 +307,9 @@ fill-asked starts a e l =
 
 pub table-filled :
     {c : Coder} {o n b starts : ℕ} {v table : List ℕ} → Sound c → v ≡ startSets starts →
-    Holds (settingOfCoder c .Start) starts → b < n → PartFilled c v o n (b + 1) table → TableFilled c o n b table
+    Bounded (fromWord c starts) → b < n → PartFilled c v o n (b + 1) table → TableFilled c starts o n b table
 table-filled {c} {o} {n} {b} {starts} {v} {table} sound e h l f =
-    let S = settingOfCoder c in
+    let S = fromWord c starts in
     record {
       size = f .size;
       is = λ k m.
@@ -322,8 +322,8 @@ table-filled {c} {o} {n} {b} {starts} {v} {table} sound e h l f =
           (rw add-one at (f .is k m)));
     }
   where
-    to : (s x : ℕ) → SetsIn c v s x → startingSets (settingOfCoder c) s x
-    to s x q = holds-member (start-holds c sound h s (q .0)) x (rw e at (q .1))
+    to : (s x : ℕ) → SetsIn c v s x → startingSets (fromWord c starts) s x
+    to s x q = holds-member (start-holds c sound starts s (q .0)) x (rw e at (q .1))
 
-    from : (s x : ℕ) → startingSets (settingOfCoder c) s x → SetsIn c v s x
-    from s x q = let l = coder-bounded sound s (q .0) in (l, rw e (start-holds c sound h s l .has x q))
+    from : (s x : ℕ) → startingSets (fromWord c starts) s x → SetsIn c v s x
+    from s x q = let l = h s (q .0) in (l, rw e (start-holds c sound starts s l .has x q))

@@ -6,14 +6,14 @@ use native.Mathlib.Numerals.{add-one}
 use native.Mathlib.Omega.{arith}
 use lib.ListN.{length, getD}
 use lib.Dec.{eqb}
+use Rattle.mealy.specs.Setting.{Bounded}
 use Rattle.mealy.specs.Word.{Holds}
 use Rattle.mealy.specs.Image.{Image}
 use Rattle.mealy.proofs.Words.{holds-map, holds-none}
 use Rattle.mealy.proofs.OneMore.{next-below, holds-more}
 use Rattle.coder.specs.Table.{machineOfCoder, Sound}
 use Rattle.coder.specs.declared.inner.tables.Coder.{Coder}
-use Rattle.setting.specs.Words.{settingOfCoder}
-use Rattle.setting.proofs.Same.{coder-bounded}
+use Rattle.setting.specs.Words.{fromWord}
 use Rattle.fitting.specs.Answer.{Right}
 use Rattle.fitting.proofs.Answers.{holds-right}
 use Rattle.filling.specs.Runs.{Sets, SetAfter, From}
@@ -53,11 +53,11 @@ module _ (c : Coder) (sound : Sound c) where
       (omega arith))
 
   pub decoded-right :
-      {starts : ℕ} (w : List ℕ) (b : ℕ) → Holds (settingOfCoder c .Start) starts → b < length w →
-      Right (settingOfCoder c) w b (decoded c starts w b)
+      (starts : ℕ) (w : List ℕ) (b : ℕ) → Bounded (fromWord c starts) → b < length w →
+      Right (fromWord c starts) w b (decoded c starts w b)
   unfolding decoded
-  decoded-right {starts} w b h l =
-      let S = settingOfCoder c in
+  decoded-right starts w b h l =
+      let S = fromWord c starts in
       holds-right
       (holds-map (λ x. fits-from S w b x l) (from-fits S w b)
-      (pass-holds w (startSets starts) (suc b) (startingSets S) (λ s x q. coder-bounded sound s (q .0)) (start-holds c sound h) (omega arith)))
+      (pass-holds w (startSets starts) (suc b) (startingSets S) (λ s x q. h s (q .0)) (start-holds c sound starts) (omega arith)))

@@ -4,13 +4,12 @@ use Prim.Native.Nat.{ℕ, _^_, _≤_, _<_}
 use mathlib.Core.Path.{_≡_}
 use mathlib.Core.List.{List}
 use lib.ListN.{length, getD}
-use Rattle.mealy.specs.Setting.{Setting}
+use Rattle.mealy.specs.Setting.{Setting, Bounded}
 use Rattle.mealy.specs.Index.{windowAt}
-use Rattle.mealy.specs.Word.{Holds}
 use Rattle.coder.specs.Limits.{maxOutputs}
 use Rattle.coder.specs.Table.{machineOfCoder}
 use Rattle.coder.specs.declared.inner.tables.Coder.{Coder}
-use Rattle.setting.specs.Words.{settingOfCoder}
+use Rattle.setting.specs.Words.{fromWord}
 use Rattle.fitting.specs.Answer.{RightByte, ByteOf}
 use Rattle.filling.specs.Runs.{From, EachWord, SetsIn, LetterAfter}
 use Rattle.filling.specs.Sets.{RowsOf, RowsAsked}
@@ -29,14 +28,14 @@ pub record FillAsked (next start entries : List ℕ) (outputs n b : ℕ) (table 
   pub inside : b < n
   pub size : length table ≡ outputs ^ n
 
--- and what it does: each byte is right
-pub record TableFilled (c : Coder) (o n b : ℕ) (table : List ℕ) : Type 0 where
+-- and what it does: each byte is right for runs that start in the states of the word
+pub record TableFilled (c : Coder) (starts o n b : ℕ) (table : List ℕ) : Type 0 where
   pub size : length table ≡ o ^ n
-  pub is : (k : ℕ) → k < o ^ n → EntryAt (settingOfCoder c) o n b k (getD table k 0)
+  pub is : (k : ℕ) → k < o ^ n → EntryAt (fromWord c starts) o n b k (getD table k 0)
 
 abbrev pub FillGiven : List ℕ → List ℕ → List ℕ → ℕ → ℕ → ℕ → ℕ → List ℕ → Type 0
 FillGiven next start entries outputs starts n b table =
-    (c : Coder) → RowsOf c start entries → next ≡ c .next → Holds (settingOfCoder c .Start) starts → TableFilled c outputs n b table
+    (c : Coder) → RowsOf c start entries → next ≡ c .next → Bounded (fromWord c starts) → TableFilled c starts outputs n b table
 
 -- ---- the part of the table whose windows have `left` letters more, after letters that led to the sets v
 

@@ -18,8 +18,7 @@ use Rattle.coder.specs.Table.{machineOfCoder, Sound}
 use Rattle.coder.specs.declared.inner.tables.Coder.{Coder}
 use Rattle.coder.proofs.Tables.{table-at, table-place, next-high, output-high}
 use Rattle.chains.specs.Parts.{placePart, placeParts}
-use Rattle.setting.specs.Words.{settingOfCoder}
-use Rattle.setting.proofs.Same.{coder-bounded}
+use Rattle.setting.specs.Words.{fromWord}
 use Rattle.fitting.specs.Answer.{Right, answerOf}
 use Rattle.fitting.specs.declared.Answer.{Answer}
 use Rattle.fitting.proofs.Answers.{holds-right}
@@ -189,18 +188,18 @@ module _ {c : Coder} {next successors predecessors letters : List ℕ} {starts :
 
   -- the letters that fit
   pub fits-in : (w : List ℕ) (b : ℕ) {u : ℕ} → Letters 64 w → Holds (FittingIn next successors letters (Has starts) w b) u →
-      Holds (Fits (settingOfCoder c) w b) u
+      Holds (Fits (fromWord c starts) w b) u
   fits-in w b l =
-      let S = settingOfCoder c in
+      let S = fromWord c starts in
       holds-map
       (λ x f.
       fitting-fits S w b x (S .Start)
       (fitting-within (Leads successors) (Successor N) (λ o. o < 64) to-successor (OnLetter next letters) (Entry N) on-entry w
-      (all (Leads successors) (Successor N) to-successor w l) b x (holds-member (k .starts-are)) f))
+      (all (Leads successors) (Successor N) to-successor w l) b x (λ s h. h) f))
       (λ x f.
       fitting-within (Successor N) (Leads successors) (λ o. o < 64) from-successor (Entry N) (OnLetter next letters) entry-on w
-      (all (Successor N) (Leads successors) from-successor w l) b x (k .starts-are .has)
-      (fits-fitting S (k .sound .next-state) (coder-bounded (k .sound)) w b x f))
+      (all (Successor N) (Leads successors) from-successor w l) b x (λ s h. h)
+      (fits-fitting S (k .sound .next-state) (k .starts-are) w b x f))
     where
       all :
           (R R′ : Transitions) (f : (o s t : ℕ) → o < 64 → R o s t → R′ o s t) (w : List ℕ) → Letters 64 w → All R R′ (λ o. o < 64) f w
@@ -209,5 +208,5 @@ module _ {c : Coder} {next successors predecessors letters : List ℕ} {starts :
 
   pub answer-right :
       (w : List ℕ) (b : ℕ) {u : ℕ} {v : Answer} → Letters 64 w → Holds (FittingIn next successors letters (Has starts) w b) u →
-      v ≡ answerOf u → Right (settingOfCoder c) w b v
+      v ≡ answerOf u → Right (fromWord c starts) w b v
   answer-right w b l h e = rw e (holds-right (fits-in w b l h))

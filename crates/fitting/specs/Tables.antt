@@ -1,18 +1,19 @@
 -- The tables that the core works on: of the entries with one output letter, for each state its successors, its predecessors and its
 -- input letters, a word each.
-use Prim.Native.Nat.{ℕ, _+_, _*_, _/_, _%_, _<_, _≤_}
+use Prim.Native.Nat.{ℕ, _+_, _*_, _%_, _<_, _≤_}
 use mathlib.Core.Path.{_≡_}
-use mathlib.Core.Bool.{Bool, true, false, cond}
+use mathlib.Core.Bool.{true, false}
 use mathlib.Core.List.{List, _∷_}
 use lib.ListN.{length, getD}
 use Rattle.mealy.specs.Machine.{Letters}
 use Rattle.mealy.specs.Word.{Has, Holds}
 use Rattle.mealy.specs.Image.{Transitions, Fitting}
+use Rattle.mealy.specs.Setting.{Bounded}
 use Rattle.coder.specs.Limits.{maxStates, maxOutputs}
-use Rattle.coder.specs.Table.{table, Sound}
+use Rattle.coder.specs.Table.{Sound}
 use Rattle.coder.specs.declared.inner.tables.Coder.{Coder}
 use Rattle.chains.specs.Parts.{placeParts}
-use Rattle.setting.specs.Words.{settingOfCoder}
+use Rattle.setting.specs.Words.{fromWord}
 use Rattle.fitting.specs.Answer.{Right}
 use Rattle.fitting.specs.declared.Answer.{Answer}
 
@@ -86,12 +87,12 @@ pub record SetsOf (c : Coder) (successors predecessors letters : List ℕ) : Typ
   pub predecessors-are : ByOutput (c .next) (placeParts false) (c .output) (c .states) (c .inputs) predecessors
   pub letters-are : ByOutput (placeParts false) (placeParts true) (c .output) (c .states) (c .inputs) letters
 
--- the arrays that the functions inside take are those of the coder c
+-- the arrays that the functions inside take are those of the coder c, and the start states of the word are states of it
 pub record TablesOf (c : Coder) (next successors predecessors letters : List ℕ) (starts : ℕ) : Type 0 where
   pub sound : Sound c
   pub next-is : next ≡ c .next
   pub sets : SetsOf c successors predecessors letters
-  pub starts-are : Holds (settingOfCoder c .Start) starts
+  pub starts-are : Bounded (fromWord c starts)
 
 -- they are those of some coder
 pub record Tables (next successors predecessors letters : List ℕ) (starts : ℕ) : Type 0 where
@@ -106,7 +107,7 @@ PresentGiven next predecessors letters o set after r =
     (successors : List ℕ) → TablesAsked next successors predecessors letters →
     Holds (FittingIn next successors letters (Has set) (o ∷ after) 0) r
 
--- the right answer, for every coder whose tables these are
+-- the right answer for runs that start in the states of the word, for every coder whose tables these are
 abbrev pub DecodeGiven : List ℕ → List ℕ → List ℕ → List ℕ → ℕ → List ℕ → ℕ → Answer → Type 0
 DecodeGiven next successors predecessors letters starts window b r =
-    (c : Coder) → TablesOf c next successors predecessors letters starts → Right (settingOfCoder c) window b r
+    (c : Coder) → TablesOf c next successors predecessors letters starts → Right (fromWord c starts) window b r

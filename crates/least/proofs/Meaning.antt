@@ -182,7 +182,7 @@ module _ (c : Coder) (starts : ℕ) (conflicts : List ℕ) (sound : Sound c) (ba
 
     -- the first of the candidates is the least window among all, whatever their sides, and its own are small
     pub least-window :
-        {R : Relation} → IsOrder R → Closed S → (w : Window) → Chosen R need w → Least R S (w .before) (w .after)
+        {R : Relation} {p : ℕ} → IsOrder R → Closed S → (w : Window) → Chosen R p need w → Least R S (w .before) (w .after)
     least-window order closed w h =
         let settled = settled-by S (start-decided c back starts sound) (start-bounded c back starts sound) in
         rw (h .is)

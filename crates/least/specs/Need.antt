@@ -105,8 +105,9 @@ pub record MostPast (worst : List ℕ) (a x : ℕ) : Type 0 where
 abbrev pub Needs : List ℕ → List ℕ → Type 0
 Needs worst need = (a : ℕ) → a < endless → MostPast worst a (getD need a 0)
 
--- the window is a candidate, and comes in R no later than any other candidate of lookahead up to maxSide
-pub record Chosen (R : Relation) (need : List ℕ) (w : Window) : Type 0 where
+-- the window is a candidate with the settle count p, and comes in R no later than any other candidate of lookahead up to maxSide
+pub record Chosen (R : Relation) (p : ℕ) (need : List ℕ) (w : Window) : Type 0 where
+  pub settle : w .settle ≡ p
   pub lookahead : w .after ≤ maxSide
   pub finite : getD need (w .after) 0 < endless
   pub is : w .before ≡ getD need (w .after) 0

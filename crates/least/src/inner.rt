@@ -152,10 +152,10 @@ fn larger(x: u8, y: u8) -> u8
     if x < y { y } else { x }
 }
 
-// The first of the candidates in the order.
-pub fn choose(order: Order, need: &[u8; 256]) -> Window
+// The first of the candidates in the order, as a window with the settle count that the letters needed were found for.
+pub fn choose(order: Order, settle: usize, need: &[u8; 256]) -> Window
     requires { ⌜ getD (now need) maxSide 0 < endless ⌝ }
-    ensures { λ r. ⌜ Chosen (relationOf order) (now (need .entry)) r ⌝ }
+    ensures { λ r. ⌜ Chosen (relationOf order) settle (now (need .entry)) r ⌝ }
 {
     let mut before = number(need[Coder::SIDE]);
     let mut after = Coder::SIDE;
@@ -168,12 +168,22 @@ pub fn choose(order: Order, need: &[u8; 256]) -> Window
             let candidate = Window {
                 before: b,
                 after: a,
+                settle,
             };
-            if no_later(order, candidate, Window { before, after }) {
+            let best = Window {
+                before,
+                after,
+                settle,
+            };
+            if no_later(order, candidate, best) {
                 before = b;
                 after = a;
             }
         }
     }
-    Window { before, after }
+    Window {
+        before,
+        after,
+        settle,
+    }
 }

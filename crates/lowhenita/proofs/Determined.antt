@@ -7,15 +7,15 @@ use lib.ListN.{take, drop}
 use Rattle.mealy.specs.Index.{windowAt}
 use Rattle.mealy.specs.LoopedPair.{LoopedPair}
 use Rattle.coder.specs.Refusal.{upon}
-use Rattle.coder.specs.File.{outputsOf, settingOf}
+use Rattle.coder.specs.File.{outputsOf}
 use Rattle.values.specs.Window.{size}
 use Rattle.values.specs.declared.Window.{Window}
 use Rattle.fitting.proofs.Answers.{right-byte-unique}
+use Rattle.decoder.specs.Window.{windowSetting}
 use Rattle.decoder.proofs.Writing.{written-unique}
 use Rattle.values.specs.Order.{defaultOrder}
-use Rattle.values.proofs.Orders.{is-order}
 use Rattle.search.specs.declared.Verdict.{Verdict}
-use Rattle.search.proofs.Determined.{verdict-determined}
+use Rattle.search.proofs.Determined.{says-determined}
 use Rattle.coder.proofs.Judging.{judges-same}
 use Rattle.layout.specs.Layout.{withFields, verdictFields, numberOf}
 use Rattle.lowhenita.specs.Host.{Hosted, BothStay, RunHosted, SearchHosted, BytesGiven, DecodeHosted, TableHosted, CheckHosted, WindowHosted, WriteHosted}
@@ -55,11 +55,12 @@ run-determined f s xs before result r q after after₂ result′ result₂ =
 -- ---- the window search
 
 pub search-determined :
-    (f before result : List ℕ) (r q : ℕ) (after after₂ result′ result₂ : List ℕ) → SearchHosted f before result r after result′ →
-    SearchHosted f before result q after₂ result₂ → (r ≡ q) × ((after ≡ after₂) × (result′ ≡ result₂))
-search-determined f before result r q after after₂ result′ result₂ =
+    (f : List ℕ) (p : ℕ) (before result : List ℕ) (r q : ℕ) (after after₂ result′ result₂ : List ℕ) →
+    SearchHosted f p before result r after result′ → SearchHosted f p before result q after₂ result₂ →
+    (r ≡ q) × ((after ≡ after₂) × (result′ ≡ result₂))
+search-determined f p before result r q after after₂ result′ result₂ =
     hosted-determined both-stay
-    (λ g g₂. let e = verdict-determined (is-order defaultOrder) (settingOf f) before (g .verdict) (g₂ .verdict) after after₂ (g .says) (g₂ .says) in
+    (λ g g₂. let e = says-determined defaultOrder f p before (g .verdict) (g₂ .verdict) after after₂ (g .says) (g₂ .says) in
     (e .1, g .fields ∙ ap (λ (v : Verdict). withFields result (verdictFields v)) (e .0) ∙ sym (g₂ .fields)))
 
 -- ---- the string decoder and the decoder table
@@ -70,7 +71,7 @@ pub decode-determined :
     (r ≡ q) × ((after ≡ after₂) × (result′ ≡ result₂))
 decode-determined f w received before result r q after after₂ result′ result₂ =
     hosted-determined both-stay
-    (bytes-given (λ j x y. right-byte-unique (settingOf f) (take (size w) (drop j received)) (w .before)))
+    (bytes-given (λ j x y. right-byte-unique (windowSetting f w) (take (size w) (drop j received)) (w .before)))
 
 pub table-determined :
     (f : List ℕ) (w : Window) (before result : List ℕ) (r q : ℕ) (after after₂ result′ result₂ : List ℕ) →
@@ -78,7 +79,7 @@ pub table-determined :
     (r ≡ q) × ((after ≡ after₂) × (result′ ≡ result₂))
 table-determined f w before result r q after after₂ result′ result₂ =
     hosted-determined both-stay
-    (bytes-given (λ j x y. right-byte-unique (settingOf f) (windowAt (outputsOf f) (size w) j) (w .before)))
+    (bytes-given (λ j x y. right-byte-unique (windowSetting f w) (windowAt (outputsOf f) (size w) j) (w .before)))
 
 -- ---- the checker of looped pairs
 
@@ -101,7 +102,7 @@ window-determined f w received result result′ result₂ r q =
     hosted-determined (λ g g₂. g ∙ sym g₂)
     (λ g g₂.
     g .fields
-    ∙ ap (λ (x : ℕ). withFields result (x ∷ [])) (right-byte-unique (settingOf f) received (w .before) (g .right) (g₂ .right))
+    ∙ ap (λ (x : ℕ). withFields result (x ∷ [])) (right-byte-unique (windowSetting f w) received (w .before) (g .right) (g₂ .right))
     ∙ sym (g₂ .fields))
 
 -- ---- the writer of coder files

@@ -58,12 +58,12 @@ accepted-run f s xs before result e =
     record { asked = asked f s xs before _ e (leb-true _ _ (h .0)); room = leb-true _ _ (h .1) }
 
 pub accepted-search :
-    (f before result : List ℕ) → searchNumber f before result ≡ 0 →
-    Accepted (searchRefusal f (leb wanted (length before)) ≡ 0) result
-accepted-search f before result e =
-    let fits = search-accepted f _ e .1 in
+    (f : List ℕ) (p : ℕ) (before result : List ℕ) → searchNumber f p before result ≡ 0 →
+    Accepted (searchRefusal f p (leb wanted (length before)) ≡ 0) result
+accepted-search f p before result e =
+    let fits = search-accepted f p _ e .fits in
     let h = both-true (leb wanted (length before)) (roomy result) fits in
-    record { asked = ap (searchRefusal f) (h .0 ∙ sym fits) ∙ e; room = leb-true _ _ (h .1) }
+    record { asked = ap (searchRefusal f p) (h .0 ∙ sym fits) ∙ e; room = leb-true _ _ (h .1) }
 
 pub accepted-decode :
     (f : List ℕ) (w : Window) (received before result : List ℕ) → decodeNumber f w received before result ≡ 0 →

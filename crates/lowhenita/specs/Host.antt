@@ -9,7 +9,6 @@ use mathlib.Core.List.{List, [], _∷_, _++_}
 use lib.ListN.{length, drop}
 use lib.Dec.{leb}
 use Rattle.mealy.specs.Machine.{outs, end}
-use Rattle.mealy.specs.Setting.{Setting}
 use Rattle.mealy.specs.LoopedPair.{LoopedPair, Valid}
 use Rattle.coder.specs.Refusal.{upon, Judges}
 use Rattle.coder.specs.File.{fileOf, outputsOf, machineOf, settingOf}
@@ -18,10 +17,11 @@ use Rattle.values.specs.declared.Window.{Window}
 use Rattle.fitting.specs.Answer.{RightByte}
 use Rattle.decoder.specs.Written.{Written}
 use Rattle.decoder.specs.Refusal.{windowRefusal, tableSize}
+use Rattle.decoder.specs.Window.{windowSetting}
 use Rattle.decoder.specs.Places.{places, stringRefusalIn, ByteAt}
 use Rattle.decoder.specs.Table.{tableRefusalIn, EntryOf}
-use Rattle.values.specs.Order.{relationOf, defaultOrder}
-use Rattle.search.specs.Search.{searchRefusal, wanted, Says}
+use Rattle.values.specs.Order.{defaultOrder}
+use Rattle.search.specs.Search.{searchRefusal, wanted, SaysOf}
 use Rattle.search.specs.declared.Verdict.{Verdict}
 use Rattle.checker.specs.Check.{checkRefusal}
 use Rattle.placing.specs.Placed.{withFront}
@@ -59,22 +59,22 @@ RunHosted f s xs before result r after result′ =
 
 -- ---- the window search
 
-abbrev pub searchNumber : List ℕ → List ℕ → List ℕ → ℕ
-searchNumber f before result = searchRefusal f (leb wanted (length before) && roomy result)
+abbrev pub searchNumber : List ℕ → ℕ → List ℕ → List ℕ → ℕ
+searchNumber f p before result = searchRefusal f p (leb wanted (length before) && roomy result)
 
--- There is a verdict that says what the verdict of a search in the default order says on these buffers, and the fields are its layout.
-pub record VerdictGiven (S : Setting) (before result after result′ : List ℕ) : Type 0 where
+-- There is a verdict that says what the verdict of a search in the default order with settle count p says on these buffers, and the fields
+-- are its layout.
+pub record VerdictGiven (f : List ℕ) (p : ℕ) (before result after result′ : List ℕ) : Type 0 where
   pub verdict : Verdict
-  pub says : Says (relationOf defaultOrder) S verdict before after
+  pub says : SaysOf defaultOrder f p verdict before after
   pub fields : result′ ≡ withFields result (verdictFields verdict)
 
 -- Demand 3 for a host ("Coders and runs", last sentence: the call hands on the search's answer): field 0 is 0 for a window, whose sides
--- are fields 1 and 2, and 1 for the first looped pair, whose start states and lengths are fields 1 to 6, and whose letters lie in the
--- lent buffer.
-abbrev pub SearchHosted : List ℕ → List ℕ → List ℕ → ℕ → List ℕ → List ℕ → Type 0
-SearchHosted f before result r after result′ =
-    Hosted (searchNumber f before result) r (BothStay before result after result′)
-    (VerdictGiven (settingOf f) before result after result′)
+-- are fields 1 and 2 and whose settle count is the host's own, and 1 for the first looped pair, whose start states and lengths are fields 1
+-- to 6, and whose letters lie in the lent buffer.
+abbrev pub SearchHosted : List ℕ → ℕ → List ℕ → List ℕ → ℕ → List ℕ → List ℕ → Type 0
+SearchHosted f p before result r after result′ =
+    Hosted (searchNumber f p before result) r (BothStay before result after result′) (VerdictGiven f p before result after result′)
 
 -- ---- the string decoder and the decoder table
 
@@ -90,7 +90,7 @@ decodeNumber f w received before result = stringRefusalIn f w received (length b
 abbrev pub DecodeHosted : List ℕ → Window → List ℕ → List ℕ → List ℕ → ℕ → List ℕ → List ℕ → Type 0
 DecodeHosted f w received before result r after result′ =
     Hosted (decodeNumber f w received before result) r (BothStay before result after result′)
-    (BytesGiven (places (length received) w) (ByteAt (settingOf f) received w) before result after result′)
+    (BytesGiven (places (length received) w) (ByteAt f received w) before result after result′)
 
 abbrev pub tableNumber : List ℕ → Window → List ℕ → List ℕ → ℕ
 tableNumber f w before result = tableRefusalIn f w (length before) (roomy result)
@@ -124,7 +124,7 @@ windowNumber f w received result = windowRefusal f w received (roomy result)
 -- There is a byte of a right answer, and field 0 is that byte.
 pub record AnswerGiven (f : List ℕ) (w : Window) (received result result′ : List ℕ) : Type 0 where
   pub byte : ℕ
-  pub right : RightByte (settingOf f) received (w .before) byte
+  pub right : RightByte (windowSetting f w) received (w .before) byte
   pub fields : result′ ≡ withFields result (byte ∷ [])
 
 -- Demand 2, second sentence, for a host: field 0 is the letter that alone fits, 254 for "none" or 255 for "several" ("Decoding", third

@@ -42,35 +42,45 @@ pub extern "C" fn lowhenita_run(
     0
 }
 
-// Finds the least window that works for a coder in the default order, least lookahead, or the first looped pair where none does. Refusals
-// 1 to 6, 11.
+// Finds the least window with a settle count that works for a coder in the default order, least lookahead, or the first looped pair where
+// none does. Refusals 1 to 6, 14, 11.
 #[no_mangle]
-pub extern "C" fn lowhenita_search(file: &[u8], letters: &mut [u8], result: &mut [u8]) -> usize
-    ensures { λ r. ⌜ SearchHosted (now (file .entry)) (now (letters .entry)) (now (result .entry)) r (now (letters .exit)) (now (result .exit)) ⌝ }
+pub extern "C" fn lowhenita_search(
+    file: &[u8],
+    settle: usize,
+    letters: &mut [u8],
+    result: &mut [u8],
+) -> usize
+    ensures { λ r. ⌜ SearchHosted (now (file .entry)) settle (now (letters .entry)) (now (result .entry)) r (now (letters .exit)) (now (result .exit)) ⌝ }
 {
     let fits = both_fit(search::inner::WANTED, letters.len(), result.len());
-    let k = search::inner::refusal(file, fits);
+    let k = search::inner::refusal(file, settle, fits);
     if k != 0 {
         return k;
     }
-    let verdict = search::inner::checked(file, Order::DEFAULT, letters);
+    let verdict = search::inner::checked(file, Order::DEFAULT, settle, letters);
     layout::inner::put_verdict(result, verdict);
     0
 }
 
-// Decodes each place of a string that has a full window. Refusals 1 to 6, 8, 11, 13.
+// Decodes each place of a string that has a full window. Refusals 1 to 6, 8, 14, 11, 13.
 #[no_mangle]
 pub extern "C" fn lowhenita_decode(
     file: &[u8],
     before: usize,
     after: usize,
+    settle: usize,
     received: &[u8],
     output: &mut [u8],
     result: &mut [u8],
 ) -> usize
-    ensures { λ r. ⌜ DecodeHosted (now (file .entry)) (window before after) (now (received .entry)) (now (output .entry)) (now (result .entry)) r (now (output .exit)) (now (result .exit)) ⌝ }
+    ensures { λ r. ⌜ DecodeHosted (now (file .entry)) (window before after settle) (now (received .entry)) (now (output .entry)) (now (result .entry)) r (now (output .exit)) (now (result .exit)) ⌝ }
 {
-    let w = values::Window { before, after };
+    let w = values::Window {
+        before,
+        after,
+        settle,
+    };
     let fits = RESULT <= result.len();
     let k = decoder::inner::refusal::string(file, w, received, output.len(), fits);
     if k != 0 {
@@ -114,18 +124,23 @@ pub extern "C" fn lowhenita_check(
     0
 }
 
-// Decodes one window of received letters. Refusals 1 to 6, 8, 9, 11, 13.
+// Decodes one window of received letters. Refusals 1 to 6, 8, 14, 9, 11, 13.
 #[no_mangle]
 pub extern "C" fn lowhenita_window(
     file: &[u8],
     before: usize,
     after: usize,
+    settle: usize,
     received: &[u8],
     result: &mut [u8],
 ) -> usize
-    ensures { λ r. ⌜ WindowHosted (now (file .entry)) (window before after) (now (received .entry)) (now (result .entry)) r (now (result .exit)) ⌝ }
+    ensures { λ r. ⌜ WindowHosted (now (file .entry)) (window before after settle) (now (received .entry)) (now (result .entry)) r (now (result .exit)) ⌝ }
 {
-    let w = values::Window { before, after };
+    let w = values::Window {
+        before,
+        after,
+        settle,
+    };
     let fits = RESULT <= result.len();
     let k = decoder::inner::refusal::window(file, w, received, fits);
     if k != 0 {
@@ -137,18 +152,23 @@ pub extern "C" fn lowhenita_window(
     0
 }
 
-// Fills the decoder table: a byte for each window, by its index. Refusals 1 to 6, 8, 10, 11.
+// Fills the decoder table: a byte for each window, by its index. Refusals 1 to 6, 8, 14, 10, 11.
 #[no_mangle]
 pub extern "C" fn lowhenita_table(
     file: &[u8],
     before: usize,
     after: usize,
+    settle: usize,
     table: &mut [u8],
     result: &mut [u8],
 ) -> usize
-    ensures { λ r. ⌜ TableHosted (now (file .entry)) (window before after) (now (table .entry)) (now (result .entry)) r (now (table .exit)) (now (result .exit)) ⌝ }
+    ensures { λ r. ⌜ TableHosted (now (file .entry)) (window before after settle) (now (table .entry)) (now (result .entry)) r (now (table .exit)) (now (result .exit)) ⌝ }
 {
-    let w = values::Window { before, after };
+    let w = values::Window {
+        before,
+        after,
+        settle,
+    };
     let fits = RESULT <= result.len();
     let k = decoder::inner::refusal::table(file, w, table.len(), fits);
     if k != 0 {

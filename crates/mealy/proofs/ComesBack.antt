@@ -62,12 +62,13 @@ module _ (S : Setting) (differ : (i j : ℕ) → i ≢ j → S .Conflict i j) (b
     ];
   }
 
-  -- the part that starts at place k of the outputs has its present letter at place k + b
-  pub comes-back-at : Closed S → (s : ℕ) (xs : List ℕ) (k : ℕ) → Start s → Letters (M .inputs) xs → k + (b + 1 + a) ≤ length xs
-      → Answers S (take (b + 1 + a) (drop k (outs M s xs))) b (letter (getD xs (k + b) 0))
-  comes-back-at closed s xs k p l n =
+  -- the part that starts at place k of the outputs has its present letter at place k + b, where the run is then in a start state
+  pub comes-back-at :
+      (s : ℕ) (xs : List ℕ) (k : ℕ) → Start (end M s (take k xs)) → Letters (M .inputs) xs → k + (b + 1 + a) ≤ length xs →
+      Answers S (take (b + 1 + a) (drop k (outs M s xs))) b (letter (getD xs (k + b) 0))
+  comes-back-at s xs k p l n =
       let part = take (b + 1 + a) (drop k xs) in
       let long : length part ≡ b + 1 + a = length-take-le (b + 1 + a) (drop k xs) (simp length-drop (omega arith)) in
       let at : getD part b 0 ≡ getD xs (k + b) 0 = getD-take (b + 1 + a) (drop k xs) b 0 (omega arith) ∙ getD-drop k xs b 0 in
       rw (drop-outs M s k xs, take-outs M (end M s (take k xs)) (b + 1 + a) (drop k xs), ← at)
-      (comes-back (end M s (take k xs)) part (end-start S closed s (take k xs) p (letters-take _ k xs l)) (letters-take _ (b + 1 + a) (drop k xs) (letters-drop _ k xs l)) long)
+      (comes-back (end M s (take k xs)) part p (letters-take _ (b + 1 + a) (drop k xs) (letters-drop _ k xs l)) long)

@@ -18,7 +18,6 @@ pub mod LoopedPairs
 pub mod Answers
 pub mod Indices
 pub mod ReachableStates
-pub mod Plain
 pub mod ComesBack
 pub mod Places
 pub mod Pigeonhole
@@ -31,3 +30,9 @@ pub mod OneMore
 pub mod Members
 pub mod StepWords
 pub mod Leading
+pub mod StartStates
+pub mod LeastOrNone
+pub mod SpareStates
+pub mod SettleCounts
+pub mod PairStarts
+pub mod Unseen

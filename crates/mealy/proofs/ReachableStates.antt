@@ -15,11 +15,11 @@ use Rattle.mealy.proofs.Sums.{stops-rising}
 
 -- ---- one string after the other
 
-end-append : (M : Machine) (s : ℕ) (xs ys : List ℕ) → end M s (xs ++ ys) ≡ end M (end M s xs) ys
+pub end-append : (M : Machine) (s : ℕ) (xs ys : List ℕ) → end M s (xs ++ ys) ≡ end M (end M s xs) ys
 end-append M s [] ys = refl
 end-append M s (x ∷ xs) ys = end-append M (M .next s x) xs ys
 
-letters-both : (n : ℕ) (xs ys : List ℕ) → Letters n xs → Letters n ys → Letters n (xs ++ ys)
+pub letters-both : (n : ℕ) (xs ys : List ℕ) → Letters n xs → Letters n ys → Letters n (xs ++ ys)
 letters-both n [] ys p q = q
 letters-both n (x ∷ xs) ys p q = (p .0, letters-both n xs ys (p .1) q)
 
@@ -30,7 +30,7 @@ abbrev pub InSteps : Machine → ℕ → ℕ → Type 0
 InSteps M zero s = s ≡ 0
 InSteps M (suc k) s = InSteps M k s ⊎ Image (EntryTo M) (InSteps M k) s
 
-dec-image :
+pub dec-image :
     (M : Machine) (P : ℕ → Type 0) → ((s : ℕ) → Dec (P s)) → ((s : ℕ) → P s → s < M .states) → (t : ℕ) → Dec (Image (EntryTo M) P t)
 dec-image M P decide small t =
     map-dec (λ z. record { s = z .0; from = z .2 .2 .0; step = record { x = z .2 .0; letter = z .2 .1; to = z .2 .2 .1 } })
@@ -46,7 +46,7 @@ module _ (M : Machine) where
   pub reachable-zero : Reachable M 0
   reachable-zero = record { xs = []; letters = tt; ends = refl }
 
-  reachable-along : (s : ℕ) (ys : List ℕ) → Reachable M s → Letters (M .inputs) ys → Reachable M (end M s ys)
+  pub reachable-along : (s : ℕ) (ys : List ℕ) → Reachable M s → Letters (M .inputs) ys → Reachable M (end M s ys)
   reachable-along s ys r l =
       record {
         xs = r .xs ++ ys;

@@ -1,19 +1,16 @@
--- Settings that say the same agree on windows, looped pairs and answers; spare states, and coders without them.
+-- Settings that say the same agree on windows, looped pairs and answers.
 use mathlib.Core.Path.{_≡_, refl, sym, ap, ap₂, _∙_}
-use mathlib.Core.Logic.{_≢_}
 use mathlib.Core.List.{List, [], _∷_}
 use Prim.Native.Nat.{ℕ, zero, suc, _+_, _≤_, _<_}
 use native.Mathlib.Omega.{arith}
-use Rattle.mealy.specs.Machine.{Machine, outs, end, Letters, Total}
-use Rattle.mealy.specs.Reachable.{Reachable, WithSpare}
-use Rattle.mealy.specs.Setting.{Setting, Same, fromReachable, anyState}
+use Rattle.mealy.specs.Machine.{Machine, outs, end, Letters}
+use Rattle.mealy.specs.Setting.{Setting, Closed, Same}
 use Rattle.mealy.specs.Window.{EqualOutputs, Works}
 use Rattle.mealy.specs.Order.{Relation, Least}
 use Rattle.mealy.specs.Answer.{Fits, Answer, letter, none, several, Answers}
 use Rattle.mealy.specs.First.{First}
 use Rattle.mealy.specs.LoopedPair.{LoopedPair, Run, first, second, letterAt, lettersFrom, mark, unlooped, letters, startOf, runInputs, Valid}
 use Rattle.mealy.proofs.Letters.{letter-at}
-use Rattle.mealy.proofs.ReachableStates.{reachable-zero, reachable-closed, reachable-bounded}
 
 -- the letters of a pair are input letters
 pub pair-letter-below :
@@ -24,7 +21,7 @@ pair-letter-below n p r (suc m) place zero at l h e = let q : place ≡ at = ome
 pair-letter-below n p r (suc m) place (suc k) at l h e = pair-letter-below n p r m (suc place) k at (l .1) (omega arith) (omega arith)
 
 -- the first m letters of a run are letters where more are
-letters-fewer :
+pub letters-fewer :
     (n : ℕ) (p : LoopedPair) (r : Run) (m k place : ℕ) → m ≤ k → Letters n (lettersFrom p r place k) → Letters n (lettersFrom p r place m)
 letters-fewer n p r zero k place l h = tt
 letters-fewer n p r (suc m) zero place l h = absurd (omega arith)
@@ -33,7 +30,7 @@ letters-fewer n p r (suc m) (suc k) place l h = (h .0, letters-fewer n p r m k (
 -- ---- runs
 
 module _ {S T : Setting} (e : Same S T) where
-  letters-same : (xs : List ℕ) → Letters (S .M .inputs) xs → Letters (T .M .inputs) xs
+  pub letters-same : (xs : List ℕ) → Letters (S .M .inputs) xs → Letters (T .M .inputs) xs
   letters-same xs l = rw (e .inputs) at l
 
   pub outs-same : (s : ℕ) (xs : List ℕ) → S .Start s → Letters (S .M .inputs) xs → outs (S .M) s xs ≡ outs (T .M) s xs
@@ -72,6 +69,19 @@ module _ {S T : Setting} (e : Same S T) where
         conflict = λ i j l m. e .conflict′ i j (rw (e .inputs) l) (rw (e .inputs) m);
         conflict′ = λ i j l m. e .conflict i j (rw (e .inputs) l) (rw (e .inputs) m);
       }
+
+pub same-trans : {S T U : Setting} → Same S T → Same T U → Same S U
+same-trans e d =
+    record {
+      closed = e .closed;
+      inputs = e .inputs ∙ d .inputs;
+      start = λ s p. d .start s (e .start s p);
+      start′ = λ s p. e .start′ s (d .start′ s p);
+      next = λ s i p l. e .next s i p l ∙ d .next s i (e .start s p) (rw (e .inputs) at l);
+      out = λ s i p l. e .out s i p l ∙ d .out s i (e .start s p) (rw (e .inputs) at l);
+      conflict = λ i j l m c. d .conflict i j (rw (e .inputs) at l) (rw (e .inputs) at m) (e .conflict i j l m c);
+      conflict′ = λ i j l m c. e .conflict′ i j l m (d .conflict′ i j (rw (e .inputs) at l) (rw (e .inputs) at m) c);
+    }
 
 -- ---- windows, looped pairs, letters that fit
 
@@ -144,53 +154,21 @@ module _ {S T : Setting} (e : Same S T) where
         differ = h .differ;
       }
 
--- ---- spare states
+-- ---- one machine, its start states said in two ways
 
--- other spare states, or other entries of these, leave the setting as it is
-module _ {M M′ : Machine} (h : WithSpare M M′) where
-  -- from the states that M reaches M′ runs as M
-  as-with-spare : Same (fromReachable M) (record { M = M′; Start = Reachable M; Conflict = λ i j. i ≢ j })
-  as-with-spare =
-      record {
-        closed = reachable-closed M;
-        inputs = h .inputs;
-        start = λ s r. r;
-        start′ = λ s r. r;
-        next = h .next;
-        out = h .out;
-        conflict = λ i j l m d. d;
-        conflict′ = λ i j l m d. d;
-      }
+-- the machine M with the start states A and the conflicts C
+abbrev pub starting : Machine → (ℕ → ℕ → Type 0) → (ℕ → Type 0) → Setting
+starting M C A = record { M = M; Start = A; Conflict = C }
 
-  pub same-with-spare : Same (fromReachable M) (fromReachable M′)
-  same-with-spare =
-      record {
-        closed = reachable-closed M;
-        inputs = h .inputs;
-        start = λ s r.
-            record {
-              xs = r .xs;
-              letters = letters-same as-with-spare (r .xs) (r .letters);
-              ends = sym (end-same as-with-spare 0 (r .xs) (reachable-zero M) (r .letters)) ∙ r .ends;
-            };
-        start′ = λ s r.
-            let l = letters-same (same-sym as-with-spare) (r .xs) (r .letters) in
-            record { xs = r .xs; letters = l; ends = end-same as-with-spare 0 (r .xs) (reachable-zero M) l ∙ r .ends };
-        next = h .next;
-        out = h .out;
-        conflict = λ i j l m d. d;
-        conflict′ = λ i j l m d. d;
-      }
-
--- where every state is reachable, a run starts in any state, as in document 01
-pub all-reachable :
-    (M : Machine) → Total M → 0 < M .states → ((s : ℕ) → s < M .states → Reachable M s) → Same (fromReachable M) (anyState M)
-all-reachable M total some all =
+pub same-starts :
+    (M : Machine) (C : ℕ → ℕ → Type 0) {A B : ℕ → Type 0} → Closed (starting M C A) → ((s : ℕ) → A s → B s) → ((s : ℕ) → B s → A s) →
+    Same (starting M C A) (starting M C B)
+same-starts M C closed to from =
     record {
-      closed = reachable-closed M;
+      closed = closed;
       inputs = refl;
-      start = reachable-bounded M total some;
-      start′ = all;
+      start = to;
+      start′ = from;
       next = λ s i r l. refl;
       out = λ s i r l. refl;
       conflict = λ i j l m d. d;

@@ -1,5 +1,5 @@
--- Sums of bits: a falling chain of symmetric sets of pairs below n stops falling within n (n + 1) / 2 rounds, and a rising chain of sets
--- of numbers below n stops rising within n - 1.
+-- Sums of bits: a falling chain of symmetric sets of pairs below n stops falling within n (n + 1) / 2 rounds, and a chain of sets of numbers
+-- below n that rises, or falls and is never empty, stops within n - 1.
 use mathlib.Core.Path.{_≡_, refl}
 use Prim.Native.Nat.{ℕ, zero, suc, _+_, _-_, _*_, _≤_, _<_}
 use native.Mathlib.Omega.{arith}
@@ -111,7 +111,7 @@ module _ (N : ℕ) (χ : ℕ → ℕ → ℕ → ℕ) (bits : (k s t : ℕ) → 
         ],
       )
 
--- ---- a rising chain of sets of numbers below N with a first member stops rising within N - 1 rounds
+-- ---- chains of sets of numbers below N
 
 module _ (N : ℕ) (P : ℕ → ℕ → Type 0) (decide : (k s : ℕ) → Dec (P k s)) (small : (k s : ℕ) → P k s → s < N) where
   -- the number of members
@@ -133,6 +133,7 @@ module _ (N : ℕ) (P : ℕ → ℕ → Type 0) (decide : (k s : ℕ) → Dec (P
       bit-get (decide m s) (decide k s)
       (sum-tight N (λ s. bit (decide k s)) (λ s. bit (decide m s)) (λ s _. bit-le (decide k s) (decide m s) (f s)) l s (small m s h)) h
 
+  -- one that rises from a first member
   pub stops-rising :
       ((k s : ℕ) → P k s → P (suc k) s) → (s : ℕ) → P 0 s → (K : ℕ) × (K < N) × ((s : ℕ) → P (suc K) s → P K s)
   stops-rising rise s h =
@@ -140,4 +141,16 @@ module _ (N : ℕ) (P : ℕ → ℕ → Type 0) (decide : (k s : ℕ) → Dec (P
         r .0,
         omega (arith, small 0 s h),
         count-same (r .0) (suc (r .0)) (rise (r .0)) (omega (arith, count-most (r .0), count-most (suc (r .0)))),
+      )
+
+  -- one that falls and is never empty
+  pub stops-shrinking :
+      ((k s : ℕ) → P (suc k) s → P k s) → ((k : ℕ) → (s : ℕ) × P k s) → (K : ℕ) × (K < N) × ((s : ℕ) → P K s → P (suc K) s)
+  stops-shrinking fall some =
+      let r = stops (N - 1) 0 (λ k. count k - 1) (omega (arith, count-most 0)) in
+      let x = some (r .0) in
+      let y = some (suc (r .0)) in (
+        r .0,
+        omega (arith, small _ _ (x .1)),
+        count-same (suc (r .0)) (r .0) (fall (r .0)) (omega (arith, count-some _ _ (x .1), count-some _ _ (y .1))),
       )

@@ -1,10 +1,11 @@
 -- What a decoder answers for the letters of one window.
-use Prim.Native.Nat.{ℕ, _<_}
+use Prim.Native.Nat.{ℕ, _+_, _<_}
 use mathlib.Core.Path.{_≡_}
 use mathlib.Core.Logic.{_≢_}
 use mathlib.Core.List.{List}
-use lib.ListN.{length, getD}
-use Rattle.mealy.specs.Machine.{outs, Letters}
+use lib.ListN.{length, getD, drop}
+use Rattle.mealy.specs.Machine.{Machine, outs, Letters}
+use Rattle.mealy.specs.Reachable.{Reachable}
 use Rattle.mealy.specs.Setting.{Setting}
 
 -- Document 01's term "fits" ("Decoding", first sentence): some run from a start state with the outputs w has the letter x at place b.
@@ -16,6 +17,18 @@ pub record Fits (S : Setting) (w : List ℕ) (b x : ℕ) : Type 0 where
   pub outputs : outs (S .M) s xs ≡ w
   pub inside : b < length xs
   pub letter : getD xs b 0 ≡ x
+
+-- The same for a coder's window with settle count p, said with no setting (document 02, 6/13, third sentence): some run from a reachable
+-- state has the outputs w from place p on, the ones before being unseen, and the letter x at place p + b. `fits↔fits-after` of
+-- proofs/Unseen.antt shows that the two agree.
+pub record FitsAfter (M : Machine) (p : ℕ) (w : List ℕ) (b x : ℕ) : Type 0 where
+  pub s : ℕ
+  pub xs : List ℕ
+  pub reachable : Reachable M s
+  pub letters : Letters (M .inputs) xs
+  pub outputs : drop p (outs M s xs) ≡ w
+  pub inside : p + b < length xs
+  pub letter : getD xs (p + b) 0 ≡ x
 
 -- The three answers ("Decoding", second sentence), and each one's byte (third sentence).
 pub data Answer : Type 0 where

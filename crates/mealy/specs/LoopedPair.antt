@@ -55,9 +55,9 @@ abbrev pub runInputs : LoopedPair → Run → List ℕ
 runInputs p r = lettersFrom p r 0 (letters p)
 
 -- Document 01's term "valid" ("Looped pair", the sentence that begins with it): the bytes hold all letters, both runs start in start
--- states (for a coder the reachable ones: document 02, 5/13), neither loop is empty, the two runs agree in output throughout, their
--- letters at the mark conflict, and each run closes both loops: it is back in its start state after the back loop, and at the end in the
--- state that it had before the forward loop.
+-- states (for a coder the reachable ones, whatever the settle count: document 02, 5/13 and 6/13), neither loop is empty, the two runs
+-- agree in output throughout, their letters at the mark conflict, and each run closes both loops: it is back in its start state after the
+-- back loop, and at the end in the state that it had before the forward loop.
 pub record Valid (S : Setting) (p : LoopedPair) : Type 0 where
   pub held : 2 * letters p ≤ length (p .bytes)
   pub start : (r : Run) → S .Start (startOf p r)

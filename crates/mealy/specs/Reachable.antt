@@ -1,7 +1,8 @@
--- Reachable states, entries from state to state, and machines that differ in spare states alone.
+-- Reachable states, the states after settle letters, entries from state to state, and machines that differ in spare states alone.
 use Prim.Native.Nat.{ℕ, _<_}
 use mathlib.Core.Path.{_≡_}
 use mathlib.Core.List.{List}
+use lib.ListN.{length}
 use Rattle.mealy.specs.Machine.{Machine, end, Letters}
 
 -- Document 02, 5/13, second sentence: some string of input letters leads to s from the state of the first row, which is state 0. The
@@ -10,6 +11,15 @@ pub record Reachable (M : Machine) (s : ℕ) : Type 0 where
   pub xs : List ℕ
   pub letters : Letters (M .inputs) xs
   pub ends : end M 0 xs ≡ s
+
+-- Document 02, 6/13, third sentence: some run of p letters from a reachable state ends in s. A window with settle count p begins there.
+pub record StartAfter (M : Machine) (p s : ℕ) : Type 0 where
+  pub from : ℕ
+  pub reachable : Reachable M from
+  pub xs : List ℕ
+  pub letters : Letters (M .inputs) xs
+  pub count : length xs ≡ p
+  pub ends : end M from xs ≡ s
 
 -- some entry of state s leads to state t
 pub record EntryTo (M : Machine) (s t : ℕ) : Type 0 where

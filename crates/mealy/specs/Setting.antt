@@ -6,7 +6,7 @@ use mathlib.Core.List.{List}
 use lib.ListN.{getD}
 use Rattle.mealy.specs.Machine.{Machine}
 use Rattle.mealy.specs.Word.{Has}
-use Rattle.mealy.specs.Reachable.{Reachable}
+use Rattle.mealy.specs.Reachable.{Reachable, StartAfter}
 
 -- It holds no proof, so that a contract can cite it.
 pub record Setting : Type 1 where
@@ -21,13 +21,18 @@ Closed S = (s i : ℕ) → S .Start s → i < S .M .inputs → S .Start (S .M .n
 abbrev pub Bounded : Setting → Type 0
 Bounded S = (s : ℕ) → S .Start s → s < S .M .states
 
--- The setting of a coder: a run may start in any reachable state (document 02, 5/13, second sentence), and different input letters are
--- to be told apart (the sentence of document 01 that defines "works").
+-- The setting of a coder's looped pairs: a run may start in any reachable state (document 02, 5/13, second sentence), and different input
+-- letters are to be told apart (the sentence of document 01 that defines "works").
 abbrev pub fromReachable : Machine → Setting
 fromReachable M = record { M = M; Start = Reachable M; Conflict = λ i j. i ≢ j }
 
--- The setting of document 01 alone ("Coders and runs", fourth sentence): a run may start in any state. Where every state is reachable
--- it says the same (`all-reachable` of proofs/SameSettings.antt).
+-- The setting of a coder's windows with settle count p: a run of the window starts where p letters lead from a reachable state (document
+-- 02, 6/13, third sentence). With p = 0 it says the same as the one above (`same-zero` of proofs/StartStates.antt).
+abbrev pub afterLetters : Machine → ℕ → Setting
+afterLetters M p = record { M = M; Start = StartAfter M p; Conflict = λ i j. i ≢ j }
+
+-- The setting of document 01 alone ("Coders and runs", fourth sentence): a run may start in any state. Where every state is reachable and
+-- no letter is for settling it says the same (`all-reachable` of proofs/SameSettings.antt).
 abbrev pub anyState : Machine → Setting
 anyState M = record { M = M; Start = λ s. s < M .states; Conflict = λ i j. i ≢ j }
 

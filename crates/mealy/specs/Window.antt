@@ -2,7 +2,7 @@
 use Prim.Native.Nat.{ℕ, _+_}
 use mathlib.Core.Path.{_≡_}
 use mathlib.Core.List.{List}
-use lib.ListN.{length, getD}
+use lib.ListN.{length, getD, drop}
 use Rattle.mealy.specs.Machine.{Machine, outs, Letters}
 use Rattle.mealy.specs.Reachable.{Reachable}
 use Rattle.mealy.specs.Setting.{Setting}
@@ -23,9 +23,11 @@ Works S b a =
     (s t : ℕ) (xs ys : List ℕ) → S .Start s → S .Start t → EqualOutputs (S .M) (b + 1 + a) s t xs ys →
     S .Conflict (getD xs b 0) (getD ys b 0) → ⊥
 
--- The same for a coder, said with no setting (document 02, 5/13): where two runs from reachable states have equal outputs, they have
--- the same letter at place b. `works↔same-letter` of proofs/Plain.antt shows that the two agree.
-abbrev pub SameLetter : Machine → ℕ → ℕ → Type 0
-SameLetter M b a =
+-- The same for a coder's window with settle count p, said with no setting (document 02, 6/13, third sentence): where two runs from reachable
+-- states have equal outputs from place p on, the ones before being unseen, they have the same letter at place p + b. `works↔same-letter` of
+-- proofs/Unseen.antt shows that the two agree.
+abbrev pub SameLetter : Machine → ℕ → ℕ → ℕ → Type 0
+SameLetter M p b a =
     (s t : ℕ) (xs ys : List ℕ) → Reachable M s → Reachable M t → Letters (M .inputs) xs → Letters (M .inputs) ys →
-    length xs ≡ b + 1 + a → length ys ≡ b + 1 + a → outs M s xs ≡ outs M t ys → getD xs b 0 ≡ getD ys b 0
+    length xs ≡ p + (b + 1 + a) → length ys ≡ p + (b + 1 + a) → drop p (outs M s xs) ≡ drop p (outs M t ys) →
+    getD xs (p + b) 0 ≡ getD ys (p + b) 0

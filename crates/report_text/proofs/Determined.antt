@@ -6,10 +6,9 @@ use native.Mathlib.Decide.{decLt}
 use native.Mathlib.Omega.{arith}
 use lib.ListN.{length, getD}
 use lib.Seq.{ext-getD, getD-take, length-take-le}
-use Rattle.mealy.specs.Setting.{Setting}
 use Rattle.mealy.proofs.LeastWindows.{least-unique}
 use Rattle.mealy.proofs.FirstPairs.{first-unique}
-use Rattle.coder.specs.File.{fileRefusal, statesOf, inputsOf, outputsOf, settingOf}
+use Rattle.coder.specs.File.{fileRefusal, statesOf, inputsOf, outputsOf, settingOf, settingAfter}
 use Rattle.values.specs.Order.{defaultOrder}
 use Rattle.values.proofs.Orders.{is-order}
 use Rattle.pair_text.proofs.Same.{text-same}
@@ -18,13 +17,13 @@ use Rattle.report_text.specs.Report.VerdictLines.{a-window, no-window}
 use Rattle.report_text.specs.Text.{textOf, Padded}
 use Rattle.report_text.specs.declared.Text.{Text}
 
-verdict-determined : (S : Setting) (x y : List ℕ) → VerdictLines S x → VerdictLines S y → x ≡ y
-verdict-determined S x y (a-window b a p) (a-window b′ a′ q) =
-    let e = least-unique (is-order defaultOrder) S b a b′ a′ p q in
+verdict-determined : (f x y : List ℕ) → VerdictLines f x → VerdictLines f y → x ≡ y
+verdict-determined f x y (a-window b a p) (a-window b′ a′ q) =
+    let e = least-unique (is-order defaultOrder) (settingAfter f 0) b a b′ a′ p q in
     rw (e .0, e .1)
-verdict-determined S x y (a-window b a p) (no-window q n h) = absurd (n b a (p .works))
-verdict-determined S x y (no-window p n h) (a-window b a q) = absurd (n b a (q .works))
-verdict-determined S x y (no-window p n h) (no-window q m h′) = text-same p q (first-unique S p q h h′)
+verdict-determined f x y (a-window b a p) (no-window q n h) = absurd (n b a (p .works))
+verdict-determined f x y (no-window p n h) (a-window b a q) = absurd (n b a (q .works))
+verdict-determined f x y (no-window p n h) (no-window q m h′) = text-same p q (first-unique (settingOf f) p q h h′)
 
 text-determined : (f x y : List ℕ) → ReportPromise f x → ReportPromise f y → x ≡ y
 text-determined f x y = go (fileRefusal f) refl
@@ -35,7 +34,7 @@ text-determined f x y = go (fileRefusal f) refl
         let w = rw e at q in
         v .is ∙
         ap (λ (l : List ℕ). coderLine (statesOf f) (inputsOf f) (outputsOf f) ++ l)
-        (verdict-determined (settingOf f) (v .verdict) (w .verdict) (v .right) (w .right)) ∙
+        (verdict-determined f (v .verdict) (w .verdict) (v .right) (w .right)) ∙
         sym (w .is)
     go (suc k) e p q =
         let v = rw e at p in

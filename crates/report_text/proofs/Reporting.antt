@@ -8,7 +8,7 @@ use lib.Dec.{leb}
 use borrow.Author.Tests.{le-leb}
 use Rattle.mealy.specs.Product.{pairs}
 use Rattle.coder.specs.Refusal.{answer}
-use Rattle.coder.specs.File.{fileRefusal, headerOf, statesOf, inputsOf, outputsOf, machineOf, settingOf}
+use Rattle.coder.specs.File.{fileRefusal, headerOf, statesOf, inputsOf, outputsOf, machineOf, settingOf, settingAfter}
 use Rattle.coder.specs.declared.Header.{Header}
 use Rattle.coder.specs.declared.Header.the-variants.{Refused, Counts}
 use Rattle.coder.proofs.FileNumbers.{file-number}
@@ -20,7 +20,7 @@ use Rattle.values.specs.declared.Window.{Window}
 use Rattle.values.specs.declared.LoopedPair.{LoopedPair}
 use Rattle.values.specs.Pair.{pairOf}
 use Rattle.values.specs.Order.{relationOf, defaultOrder}
-use Rattle.search.specs.Search.{searchRefusal, wanted, Says, WindowReport, PairReport, FoundVerdict, SearchPromise}
+use Rattle.search.specs.Search.{searchRefusal, wanted, SaysOf, WindowReport, PairReport, FoundVerdict, SearchPromise}
 use Rattle.search.specs.declared.SearchResult.{SearchResult}
 use Rattle.search.specs.declared.SearchResult.the-variants.{Refused as RefusedSearch, Found}
 use Rattle.search.specs.declared.Verdict.{Verdict}
@@ -91,7 +91,7 @@ report-refused f {h} {k} e d w =
 
 pub report-accepted :
     (f : List ℕ) {h : Header} {n i o at next : ℕ} {before middle after : List ℕ} → h ≡ headerOf f → h ≡ Counts n i o →
-    Placed before 0 (coderLine n i o) middle at → at ≤ 18 → VerdictWritten (settingOf f) middle at after next →
+    Placed before 0 (coderLine n i o) middle at → at ≤ 18 → VerdictWritten f middle at after next →
     ReportWritten f before after next
 report-accepted f {h} {n} {i} {o} e d w l v =
     let c = header-counts f e d in
@@ -106,17 +106,17 @@ report-accepted f {h} {n} {i} {o} e d w l v =
 -- ---- the search, with as many bytes as it wants on an accepted file: never refused
 
 module _ (f before after : List ℕ) (ok : fileRefusal f ≡ 0) (long : wanted ≡ length before) where
-  not-refused : searchRefusal f (leb wanted (length before)) ≡ 0
+  not-refused : searchRefusal f 0 (leb wanted (length before)) ≡ 0
   unfolding searchRefusal
   not-refused = let l : wanted ≤ length before = omega arith in rw (ok, le-leb wanted (length before) l)
 
-  found : {r : SearchResult} → SearchPromise defaultOrder f before r after → FoundVerdict (relationOf defaultOrder) (settingOf f) r before after
+  found : {r : SearchResult} → SearchPromise defaultOrder f 0 before r after → FoundVerdict defaultOrder f 0 r before after
   found p = rw not-refused at p
 
-  pub never-refused : {r : SearchResult} {k : ℕ} → SearchPromise defaultOrder f before r after → r ≡ RefusedSearch k → ⊥
+  pub never-refused : {r : SearchResult} {k : ℕ} → SearchPromise defaultOrder f 0 before r after → r ≡ RefusedSearch k → ⊥
   never-refused p e = let g = found p in let d = g .is in let z : _≡_ {A = ℕ} 0 1 = cc in absurd (omega arith)
 
-  says : {r : SearchResult} {v : Verdict} → SearchPromise defaultOrder f before r after → r ≡ Found v → Says (relationOf defaultOrder) (settingOf f) v before after
+  says : {r : SearchResult} {v : Verdict} → SearchPromise defaultOrder f 0 before r after → r ≡ Found v → SaysOf defaultOrder f 0 v before after
   says {r} {v} p e =
       let g = found p in
       let d = g .is in
@@ -124,13 +124,13 @@ module _ (f before after : List ℕ) (ok : fileRefusal f ≡ 0) (long : wanted �
       rw z (g .says)
 
   window-found :
-      {r : SearchResult} {v : Verdict} {w : Window} → SearchPromise defaultOrder f before r after → r ≡ Found v → v ≡ Least w →
-      WindowReport (relationOf defaultOrder) (settingOf f) w before after
+      {r : SearchResult} {v : Verdict} {w : Window} → SearchPromise defaultOrder f 0 before r after → r ≡ Found v → v ≡ Least w →
+      WindowReport (relationOf defaultOrder) (settingAfter f 0) 0 w before after
   window-found p e d = rw d at (says p e)
 
   pair-found :
-      {r : SearchResult} {v : Verdict} {q : LoopedPair} → SearchPromise defaultOrder f before r after → r ≡ Found v → v ≡ NoDecoder q →
-      PairReport (settingOf f) q before after
+      {r : SearchResult} {v : Verdict} {q : LoopedPair} → SearchPromise defaultOrder f 0 before r after → r ≡ Found v → v ≡ NoDecoder q →
+      PairReport (settingAfter f 0) (settingOf f) q before after
   pair-found p e d = rw d at (says p e)
 
   states-are : machineOf f .states ≡ statesOf f
@@ -142,7 +142,7 @@ module _ (f before after : List ℕ) (ok : fileRefusal f ≡ 0) (long : wanted �
   inputs-are = refl
 
   pub window-short :
-      {r : SearchResult} {v : Verdict} {w : Window} → SearchPromise defaultOrder f before r after → r ≡ Found v → v ≡ Least w →
+      {r : SearchResult} {v : Verdict} {w : Window} → SearchPromise defaultOrder f 0 before r after → r ≡ Found v → v ≡ Least w →
       (w .before < 1000) × (w .after < 1000)
   window-short p e d =
       let high : pairs (machineOf f .states) ≤ 136 = rw states-are (pairs-high (statesOf f) (accepted f ok .entries .limits .states-high)) in
@@ -150,8 +150,8 @@ module _ (f before after : List ℕ) (ok : fileRefusal f ≡ 0) (long : wanted �
       (omega (arith, w .before-small), omega (arith, w .after-small))
 
   pub window-lines :
-      {r : SearchResult} {v : Verdict} {w : Window} {out out′ : List ℕ} {at next : ℕ} → SearchPromise defaultOrder f before r after → r ≡ Found v →
-      v ≡ Least w → Placed out at (windowLine (w .before) (w .after)) out′ next → VerdictWritten (settingOf f) out at out′ next
+      {r : SearchResult} {v : Verdict} {w : Window} {out out′ : List ℕ} {at next : ℕ} → SearchPromise defaultOrder f 0 before r after → r ≡ Found v →
+      v ≡ Least w → Placed out at (windowLine (w .before) (w .after)) out′ next → VerdictWritten f out at out′ next
   window-lines {r} {v} {w} p e d q =
       let l = window-short p e d in
       record {
@@ -162,23 +162,23 @@ module _ (f before after : List ℕ) (ok : fileRefusal f ≡ 0) (long : wanted �
       }
 
   pub pair-length :
-      {r : SearchResult} {v : Verdict} {q : LoopedPair} → SearchPromise defaultOrder f before r after → r ≡ Found v → v ≡ NoDecoder q →
+      {r : SearchResult} {v : Verdict} {q : LoopedPair} → SearchPromise defaultOrder f 0 before r after → r ≡ Found v → v ≡ NoDecoder q →
       length (pairText (pairOf q after)) ≤ pairBytes
   pair-length {r} {v} {q} p e d =
       let g = pair-found p e d in
       let l = accepted f ok .entries .limits in
       let z : r ≡ Found (NoDecoder q) = cc in
       text-short (settingOf f) (pairOf q after) (file-bounded f (accepted f ok)) (rw states-are (l .states-high)) (rw inputs-are (l .inputs-high)) (g .first .valid)
-      (rw states-are (pair-short defaultOrder f before q after (rw z at p)))
+      (rw states-are (pair-short defaultOrder f 0 before q after (rw z at p)))
 
   pub pair-asked :
-      {r : SearchResult} {v : Verdict} {q : LoopedPair} {out : List ℕ} {at : ℕ} → SearchPromise defaultOrder f before r after →
+      {r : SearchResult} {v : Verdict} {q : LoopedPair} {out : List ℕ} {at : ℕ} → SearchPromise defaultOrder f 0 before r after →
       r ≡ Found v → v ≡ NoDecoder q → at + pairBytes ≤ length out → PairAsked (pairOf q after) at out
   pair-asked p e d l = record { held = pair-found p e d .first .valid .held; room = omega (arith, pair-length p e d) }
 
   pub pair-lines :
-      {r : SearchResult} {v : Verdict} {q : LoopedPair} {out out′ : List ℕ} {at next : ℕ} → SearchPromise defaultOrder f before r after →
-      r ≡ Found v → v ≡ NoDecoder q → Placed out at (pairText (pairOf q after)) out′ next → VerdictWritten (settingOf f) out at out′ next
+      {r : SearchResult} {v : Verdict} {q : LoopedPair} {out out′ : List ℕ} {at next : ℕ} → SearchPromise defaultOrder f 0 before r after →
+      r ≡ Found v → v ≡ NoDecoder q → Placed out at (pairText (pairOf q after)) out′ next → VerdictWritten f out at out′ next
   pair-lines {r} {v} {q} p e d w =
       let g = pair-found p e d in
       record {

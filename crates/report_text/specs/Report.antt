@@ -1,8 +1,7 @@
--- The report on a coder file: every byte that it prints (document 01, "The report program"; document 02, 1/13 and 2/13).
+-- The report on a coder file: every byte that it prints (document 01, "The report program"; document 02, 1/13, 2/13 and 6/13).
 use Prim.Native.Nat.{ℕ}
 use mathlib.Core.Path.{_≡_}
 use mathlib.Core.List.{List, [], _∷_, _++_}
-use Rattle.mealy.specs.Setting.{Setting}
 use Rattle.mealy.specs.Window.{Works}
 use Rattle.mealy.specs.Order.{Least}
 use Rattle.mealy.specs.LoopedPair.{LoopedPair}
@@ -11,7 +10,7 @@ use Rattle.coder.specs.Refusal.{upon}
 use Rattle.text.specs.Ascii.{space, lineFeed}
 use Rattle.text.specs.Decimal.{decimal}
 use Rattle.pair_text.specs.Lines.{pairText}
-use Rattle.coder.specs.File.{fileRefusal, statesOf, inputsOf, outputsOf, settingOf}
+use Rattle.coder.specs.File.{fileRefusal, statesOf, inputsOf, outputsOf, settingOf, settingAfter}
 use Rattle.values.specs.Order.{relationOf, defaultOrder}
 
 -- ---- words, in ASCII
@@ -42,21 +41,21 @@ windowLine b a = windowWord ++ decimal b ++ space ++ decimal a ++ lineFeed
 
 -- ---- the report
 
--- Which lines are right behind the first: that of the least window that works, in the default order (document 02, 1/13); or, where no
--- window works, those of no decoder with the first looped pair (2/13).
-pub data VerdictLines (S : Setting) : List ℕ → Type 0 where
-  a-window : (b a : ℕ) → Least (relationOf defaultOrder) S b a → VerdictLines S (windowLine b a)
-  no-window : (p : LoopedPair) → ((b a : ℕ) → Works S b a → ⊥) → First S p → VerdictLines S (pairText p)
+-- Which lines are right behind the first: that of the least window that works, in the default order (document 02, 1/13) and with settle
+-- count 0 (6/13); or, where no window works, those of no decoder with the first looped pair (2/13).
+pub data VerdictLines (f : List ℕ) : List ℕ → Type 0 where
+  a-window : (b a : ℕ) → Least (relationOf defaultOrder) (settingAfter f 0) b a → VerdictLines f (windowLine b a)
+  no-window : (p : LoopedPair) → ((b a : ℕ) → Works (settingAfter f 0) b a → ⊥) → First (settingOf f) p → VerdictLines f (pairText p)
 
 -- The text is this first line, and the right lines behind it.
-pub record AllLines (S : Setting) (line text : List ℕ) : Type 0 where
+pub record AllLines (f line text : List ℕ) : Type 0 where
   pub verdict : List ℕ
-  pub right : VerdictLines S verdict
+  pub right : VerdictLines f verdict
   pub is : text ≡ line ++ verdict
 
 -- The report on an accepted file.
 abbrev pub AcceptedReport : List ℕ → List ℕ → Type 0
-AcceptedReport f text = AllLines (settingOf f) (coderLine (statesOf f) (inputsOf f) (outputsOf f)) text
+AcceptedReport f text = AllLines f (coderLine (statesOf f) (inputsOf f) (outputsOf f)) text
 
 -- The whole text on a file: the number of its refusal (1 to 6), or the lines.
 abbrev pub ReportPromise : List ℕ → List ℕ → Type 0

@@ -3,7 +3,6 @@ use Prim.Native.Nat.{ℕ, _+_, _≤_}
 use mathlib.Core.Path.{_≡_}
 use mathlib.Core.List.{List}
 use lib.ListN.{length, getD, take}
-use Rattle.mealy.specs.Setting.{Setting}
 use Rattle.placing.specs.Placed.{Placed}
 use Rattle.pair_text.specs.Lines.{pairBytes}
 use Rattle.report_text.specs.Report.{VerdictLines, ReportPromise}
@@ -24,9 +23,9 @@ pub record Padded (t : Text) : Type 0 where
   pub clear : (k : ℕ) → t .len ≤ k → getD (t .bytes) k 0 ≡ 0
 
 -- The right lines of the verdict are written from the place `at` on.
-pub record VerdictWritten (S : Setting) (before : List ℕ) (at : ℕ) (after : List ℕ) (next : ℕ) : Type 0 where
+pub record VerdictWritten (f before : List ℕ) (at : ℕ) (after : List ℕ) (next : ℕ) : Type 0 where
   pub lines : List ℕ
-  pub right : VerdictLines S lines
+  pub right : VerdictLines f lines
   pub is : Placed before at lines after next
   pub short : next ≤ at + pairBytes
 

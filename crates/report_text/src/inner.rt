@@ -2,7 +2,7 @@
 ghost use mathlib.Core.Path.{_≡_};
 ghost use Prim.Native.Nat.{ℕ, _+_, _<_, _≤_};
 ghost use lib.ListN.{length, getD};
-ghost use Rattle.coder.specs.File.{fileRefusal, settingOf};
+ghost use Rattle.coder.specs.File.{fileRefusal};
 ghost use Rattle.search.specs.Search.{wanted};
 ghost use Rattle.pair_text.specs.Lines.{pairBytes};
 ghost use Rattle.placing.specs.Placed.{Placed};
@@ -63,10 +63,10 @@ fn buffer() -> [u8; search::inner::WANTED]
 // The lines behind the first on an accepted file: of the window, or of no decoder and the looped pair.
 fn verdict_lines(file: &[u8], out: &mut [u8], at: usize) -> usize
     requires { ⌜ (fileRefusal (now file) ≡ 0) × (at + pairBytes ≤ length (now out)) ⌝ }
-    ensures { λ r. ⌜ VerdictWritten (settingOf (now (file .entry))) (now (out .entry)) at (now (out .exit)) r ⌝ }
+    ensures { λ r. ⌜ VerdictWritten (now (file .entry)) (now (out .entry)) at (now (out .exit)) r ⌝ }
 {
     let mut letters = buffer();
-    let found = search::search(file, &mut letters);
+    let found = search::search(file, 0, &mut letters);
     match found {
         search::SearchResult::Refused(_) => at,
         search::SearchResult::Found(v) => match v {

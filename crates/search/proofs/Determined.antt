@@ -14,8 +14,9 @@ use Rattle.mealy.specs.First.{key}
 use Rattle.mealy.proofs.LeastWindows.{least-unique}
 use Rattle.mealy.proofs.FirstPairs.{first-unique}
 use Rattle.mealy.proofs.ReachableStates.{reachable-closed}
+use Rattle.mealy.proofs.SettleCounts.{works-none}
 use Rattle.first_pair.proofs.Bounds.{first-short}
-use Rattle.coder.specs.File.{statesOf, machineOf, settingOf}
+use Rattle.coder.specs.File.{statesOf, machineOf, settingOf, settingAfter}
 use Rattle.coder.proofs.Accepted.{accepted}
 use Rattle.coder.proofs.Tables.{file-bounded}
 use Rattle.values.specs.Window.{window}
@@ -25,7 +26,7 @@ use Rattle.values.specs.declared.Window.{Window}
 use Rattle.values.specs.declared.Order.{Order}
 use Rattle.values.specs.declared.LoopedPair.{LoopedPair}
 use Rattle.values.proofs.Orders.{is-order}
-use Rattle.search.specs.Search.{searchRefusal, wanted, PairReport, Says, IsNoDecoder, FoundVerdict, SearchPromise}
+use Rattle.search.specs.Search.{searchRefusal, wanted, PairReport, Says, SaysOf, IsNoDecoder, FoundVerdict, SearchPromise}
 use Rattle.search.specs.declared.Verdict.{Verdict}
 use Rattle.search.specs.declared.Verdict.the-variants.{Least, NoDecoder}
 use Rattle.search.specs.declared.SearchResult.{SearchResult}
@@ -35,25 +36,25 @@ use Rattle.search.proofs.Files.{search-accepted}
 -- ---- a search that was not refused
 
 -- no number applies, and its verdict says what it is to say
-pub record FoundSays (o : Order) (f before : List ℕ) (v : Verdict) (after : List ℕ) : Type 0 where
-  pub accepted : searchRefusal f (leb wanted (length before)) ≡ 0
-  pub says : Says (relationOf o) (settingOf f) v before after
+pub record FoundSays (o : Order) (f : List ℕ) (p : ℕ) (before : List ℕ) (v : Verdict) (after : List ℕ) : Type 0 where
+  pub accepted : searchRefusal f p (leb wanted (length before)) ≡ 0
+  pub says : SaysOf o f p v before after
 
 pub found :
-    (o : Order) (f before : List ℕ) (v : Verdict) (after : List ℕ) → SearchPromise o f before (Found v) after →
-    FoundSays o f before v after
-found o f before v after = go (searchRefusal f (leb wanted (length before))) refl
+    (o : Order) (f : List ℕ) (p : ℕ) (before : List ℕ) (v : Verdict) (after : List ℕ) → SearchPromise o f p before (Found v) after →
+    FoundSays o f p before v after
+found o f p before v after = go (searchRefusal f p (leb wanted (length before))) refl
   where
     go :
-        (k : ℕ) → searchRefusal f (leb wanted (length before)) ≡ k → SearchPromise o f before (Found v) after →
-        FoundSays o f before v after
-    go zero e p =
-        let q : FoundVerdict (relationOf o) (settingOf f) (Found v) before after = rw e at p in
+        (k : ℕ) → searchRefusal f p (leb wanted (length before)) ≡ k → SearchPromise o f p before (Found v) after →
+        FoundSays o f p before v after
+    go zero e h =
+        let q : FoundVerdict o f p (Found v) before after = rw e at h in
         let d = q .is in
         let z : v ≡ q .verdict = cc in
         record { accepted = e; says = rw z (q .says) }
-    go (suc k) e p =
-        let q = rw e at p in
+    go (suc k) e h =
+        let q = rw e at h in
         let d = q .is in
         let z : _≡_ {A = ℕ} 0 1 = cc in
         absurd (omega arith)
@@ -61,25 +62,27 @@ found o f before v after = go (searchRefusal f (leb wanted (length before))) ref
 -- ---- "no decoder"
 
 exactly :
-    (R : Relation) (S : Setting) (v : Verdict) (before after : List ℕ) → Says R S v before after →
+    (R : Relation) (S P : Setting) (p : ℕ) (v : Verdict) (before after : List ℕ) → Says R S P p v before after →
     IsNoDecoder v ↔ ((b a : ℕ) → Works S b a → ⊥)
-exactly R S (Least w) before after h = (λ x. absurd x, λ none. none (w .before) (w .after) (h .least .works))
-exactly R S (NoDecoder p) before after h = (λ x. h .none, λ none. tt)
+exactly R S P p (Least w) before after h = (λ x. absurd x, λ none. none (w .before) (w .after) (h .least .works))
+exactly R S P p (NoDecoder q) before after h = (λ x. h .none, λ none. tt)
 
 -- Demand 3, first sentence, in both directions: "no decoder" where windows of all sizes fail, and there alone.
 pub no-decoder-exactly :
-    (o : Order) (f before : List ℕ) (v : Verdict) (after : List ℕ) → SearchPromise o f before (Found v) after →
-    IsNoDecoder v ↔ ((b a : ℕ) → Works (settingOf f) b a → ⊥)
-no-decoder-exactly o f before v after h = exactly (relationOf o) (settingOf f) v before after (found o f before v after h .says)
+    (o : Order) (f : List ℕ) (p : ℕ) (before : List ℕ) (v : Verdict) (after : List ℕ) → SearchPromise o f p before (Found v) after →
+    IsNoDecoder v ↔ ((b a : ℕ) → Works (settingAfter f p) b a → ⊥)
+no-decoder-exactly o f p before v after h =
+    exactly (relationOf o) (settingAfter f p) (settingOf f) p v before after (found o f p before v after h .says)
 
--- "no decoder" in one order exactly where in any other: two searches of one file, whatever their buffers
-pub no-decoder-any-order :
-    (o o′ : Order) (f before before′ : List ℕ) (v v′ : Verdict) (after after′ : List ℕ) → SearchPromise o f before (Found v) after →
-    SearchPromise o′ f before′ (Found v′) after′ → IsNoDecoder v ↔ IsNoDecoder v′
-no-decoder-any-order o o′ f before before′ v v′ after after′ h h′ =
-    let e = no-decoder-exactly o f before v after h in
-    let e′ = no-decoder-exactly o′ f before′ v′ after′ h′ in
-    (λ n. e′ .1 (e .0 n), λ n. e .1 (e′ .0 n))
+-- "no decoder" in one order and with one settle count exactly where in any other and with any other: two searches of one file, whatever
+-- their buffers (document 02, 6/13, the sentence on existence)
+pub no-decoder-any :
+    (o o′ : Order) (f : List ℕ) (p p′ : ℕ) (before before′ : List ℕ) (v v′ : Verdict) (after after′ : List ℕ) →
+    SearchPromise o f p before (Found v) after → SearchPromise o′ f p′ before′ (Found v′) after′ → IsNoDecoder v ↔ IsNoDecoder v′
+no-decoder-any o o′ f p p′ before before′ v v′ after after′ h h′ =
+    let e = no-decoder-exactly o f p before v after h in
+    let e′ = no-decoder-exactly o′ f p′ before′ v′ after′ h′ in
+    (λ n. e′ .1 (works-none (machineOf f) p p′ (e .0 n)), λ n. e .1 (works-none (machineOf f) p′ p (e′ .0 n)))
 
 -- ---- the looped pair
 
@@ -104,62 +107,71 @@ pair-same p p′ before after after′ l l′ d d′ e =
       sym (take-append-drop m after) ∙ ap₂ (λ (x y : List ℕ). x ++ y) (rw n at k) (rw n at d ∙ sym d′) ∙ take-append-drop m after′,
     )
 
-module _ {S : Setting} {p p′ : LoopedPair} {before after after′ : List ℕ} (h : PairReport S p before after)
-    (h′ : PairReport S p′ before after′) where
-  pub pair-determined : (p ≡ p′) × (after ≡ after′)
+module _ {S S′ P : Setting} {q q′ : LoopedPair} {before after after′ : List ℕ} (h : PairReport S P q before after)
+    (h′ : PairReport S′ P q′ before after′) where
+  pub pair-determined : (q ≡ q′) × (after ≡ after′)
   pair-determined =
-      pair-same p p′ before after after′ (h .size) (h′ .size) (h .rest) (h′ .rest)
-      (first-unique S (pairOf p after) (pairOf p′ after′) (h .first) (h′ .first))
+      pair-same q q′ before after after′ (h .size) (h′ .size) (h .rest) (h′ .rest)
+      (first-unique P (pairOf q after) (pairOf q′ after′) (h .first) (h′ .first))
 
--- the pair does not depend on the order
-pub pair-any-order :
-    (o o′ : Order) (f before : List ℕ) (p p′ : LoopedPair) (after after′ : List ℕ) → SearchPromise o f before (Found (NoDecoder p)) after →
-    SearchPromise o′ f before (Found (NoDecoder p′)) after′ → (p ≡ p′) × (after ≡ after′)
-pair-any-order o o′ f before p p′ after after′ h h′ =
-    pair-determined (found o f before (NoDecoder p) after h .says) (found o′ f before (NoDecoder p′) after′ h′ .says)
+-- the pair depends neither on the order nor on the settle count
+pub pair-any :
+    (o o′ : Order) (f : List ℕ) (p p′ : ℕ) (before : List ℕ) (q q′ : LoopedPair) (after after′ : List ℕ) →
+    SearchPromise o f p before (Found (NoDecoder q)) after → SearchPromise o′ f p′ before (Found (NoDecoder q′)) after′ →
+    (q ≡ q′) × (after ≡ after′)
+pair-any o o′ f p p′ before q q′ after after′ h h′ =
+    pair-determined (found o f p before (NoDecoder q) after h .says) (found o′ f p′ before (NoDecoder q′) after′ h′ .says)
 
 -- it keeps both bounds of N × N letters ("Looped pair", the sentence on them)
 pub pair-short :
-    (o : Order) (f before : List ℕ) (p : LoopedPair) (after : List ℕ) → SearchPromise o f before (Found (NoDecoder p)) after →
-    Short (statesOf f) (pairOf p after)
+    (o : Order) (f : List ℕ) (p : ℕ) (before : List ℕ) (q : LoopedPair) (after : List ℕ) →
+    SearchPromise o f p before (Found (NoDecoder q)) after → Short (statesOf f) (pairOf q after)
 unfolding machineOf
-pair-short o f before p after h =
-    let s = found o f before (NoDecoder p) after h in
-    let a = search-accepted f (leb wanted (length before)) (s .accepted) .0 in
-    first-short (settingOf f) (reachable-closed (machineOf f)) (file-bounded f (accepted f a)) (pairOf p after) (s .says .first)
+pair-short o f p before q after h =
+    let s = found o f p before (NoDecoder q) after h in
+    let a = search-accepted f p (leb wanted (length before)) (s .accepted) .file in
+    first-short (settingOf f) (reachable-closed (machineOf f)) (file-bounded f (accepted f a)) (pairOf q after) (s .says .first)
 
 -- ---- two outcomes of one call
 
-window-same : (w w′ : Window) → w .before ≡ w′ .before → w .after ≡ w′ .after → w ≡ w′
-window-same w w′ e d = ap₂ window e d
+window-same : (w w′ : Window) → w .before ≡ w′ .before → w .after ≡ w′ .after → w .settle ≡ w′ .settle → w ≡ w′
+window-same w w′ e d c = let z : window (w .before) (w .after) (w .settle) ≡ w′ = rw (e, d, c) in z
 
 pub verdict-determined :
-    {R : Relation} → IsOrder R → (S : Setting) (before : List ℕ) (v v′ : Verdict) (after after′ : List ℕ) → Says R S v before after →
-    Says R S v′ before after′ → (v ≡ v′) × (after ≡ after′)
-verdict-determined order S before (Least w) (Least w′) after after′ p q =
-    let e = least-unique order S (w .before) (w .after) (w′ .before) (w′ .after) (p .least) (q .least) in
-    (ap Least (window-same w w′ (e .0) (e .1)), p .stays ∙ sym (q .stays))
-verdict-determined order S before (Least w) (NoDecoder p′) after after′ p q = absurd (q .none (w .before) (w .after) (p .least .works))
-verdict-determined order S before (NoDecoder p₀) (Least w′) after after′ p q = absurd (p .none (w′ .before) (w′ .after) (q .least .works))
-verdict-determined order S before (NoDecoder p₀) (NoDecoder p′) after after′ p q =
-    let e = pair-determined p q in
+    {R : Relation} → IsOrder R → (S P : Setting) (p : ℕ) (before : List ℕ) (v v′ : Verdict) (after after′ : List ℕ) →
+    Says R S P p v before after → Says R S P p v′ before after′ → (v ≡ v′) × (after ≡ after′)
+verdict-determined order S P p before (Least w) (Least w′) after after′ x y =
+    let e = least-unique order S (w .before) (w .after) (w′ .before) (w′ .after) (x .least) (y .least) in
+    (ap Least (window-same w w′ (e .0) (e .1) (x .settle ∙ sym (y .settle))), x .stays ∙ sym (y .stays))
+verdict-determined order S P p before (Least w) (NoDecoder q′) after after′ x y =
+    absurd (y .none (w .before) (w .after) (x .least .works))
+verdict-determined order S P p before (NoDecoder q) (Least w′) after after′ x y =
+    absurd (x .none (w′ .before) (w′ .after) (y .least .works))
+verdict-determined order S P p before (NoDecoder q) (NoDecoder q′) after after′ x y =
+    let e = pair-determined x y in
     (ap NoDecoder (e .0), e .1)
+
+-- the same of a file
+pub says-determined :
+    (o : Order) (f : List ℕ) (p : ℕ) (before : List ℕ) (v v′ : Verdict) (after after′ : List ℕ) → SaysOf o f p v before after →
+    SaysOf o f p v′ before after′ → (v ≡ v′) × (after ≡ after′)
+says-determined o f p = verdict-determined (is-order o) (settingAfter f p) (settingOf f) p
 
 -- Two outcomes that meet the promise for the same arguments, the order among them, are equal: result and buffer.
 pub search-determined :
-    (o : Order) (f before : List ℕ) (r r′ : SearchResult) (after after′ : List ℕ) → SearchPromise o f before r after →
-    SearchPromise o f before r′ after′ → (r ≡ r′) × (after ≡ after′)
-search-determined o f before r r′ after after′ = go (searchRefusal f (leb wanted (length before))) refl
+    (o : Order) (f : List ℕ) (p : ℕ) (before : List ℕ) (r r′ : SearchResult) (after after′ : List ℕ) →
+    SearchPromise o f p before r after → SearchPromise o f p before r′ after′ → (r ≡ r′) × (after ≡ after′)
+search-determined o f p before r r′ after after′ = go (searchRefusal f p (leb wanted (length before))) refl
   where
     go :
-        (k : ℕ) → searchRefusal f (leb wanted (length before)) ≡ k → SearchPromise o f before r after →
-        SearchPromise o f before r′ after′ → (r ≡ r′) × (after ≡ after′)
-    go zero e p q =
-        let x = rw e at p in
-        let y = rw e at q in
-        let d = verdict-determined (is-order o) (settingOf f) before (x .verdict) (y .verdict) after after′ (x .says) (y .says) in
+        (k : ℕ) → searchRefusal f p (leb wanted (length before)) ≡ k → SearchPromise o f p before r after →
+        SearchPromise o f p before r′ after′ → (r ≡ r′) × (after ≡ after′)
+    go zero e h h′ =
+        let x = rw e at h in
+        let y = rw e at h′ in
+        let d = says-determined o f p before (x .verdict) (y .verdict) after after′ (x .says) (y .says) in
         (x .is ∙ ap Found (d .0) ∙ sym (y .is), d .1)
-    go (suc k) e p q =
-        let x = rw e at p in
-        let y = rw e at q in
+    go (suc k) e h h′ =
+        let x = rw e at h in
+        let y = rw e at h′ in
         (x .is ∙ sym (y .is), x .stays ∙ sym (y .stays))

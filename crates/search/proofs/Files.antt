@@ -4,12 +4,16 @@ use mathlib.Core.Bool.{Bool, true, not}
 use mathlib.Core.List.{List}
 use Prim.Native.Nat.{ℕ, _≤_}
 use native.Mathlib.Omega.{arith}
-use lib.Dec.{lit<}
+use lib.Dec.{lit<, leb}
+use borrow.Author.Tests.{leb-true}
 use Rattle.mealy.specs.Setting.{Setting, Same}
 use Rattle.mealy.specs.Order.{Relation}
 use Rattle.mealy.proofs.Sums.{pairs-rise}
-use Rattle.mealy.proofs.LoopedPairs.{turned-runs, excludes}
-use Rattle.mealy.proofs.SameSettings.{same-sym, least-same, first-same}
+use Rattle.mealy.specs.LoopedPair.{LoopedPair}
+use Rattle.mealy.specs.First.{First}
+use Rattle.mealy.proofs.LoopedPairs.{turned-runs}
+use Rattle.mealy.proofs.SameSettings.{same-sym, works-same, least-same}
+use Rattle.coder.specs.Limits.{maxSettle}
 use Rattle.coder.specs.Refusal.{refuse}
 use Rattle.coder.specs.File.{fileRefusal}
 use Rattle.coder.proofs.Refusals.{refuse-not, first-none}
@@ -18,32 +22,41 @@ use Rattle.search.specs.Search.{searchRefusal, Says}
 use Rattle.search.specs.declared.Verdict.{Verdict}
 use Rattle.search.specs.declared.Verdict.the-variants.{Least, NoDecoder}
 
--- where the one has no more states than the other, of which the bound on a window's sides speaks
+-- where the one has no more states than the other, of which the bound on a window's sides speaks; with the settings of the pairs
 pub says-same :
-    (R : Relation) {S T : Setting} → Same S T → S .M .states ≤ T .M .states → (v : Verdict) (before after : List ℕ) →
-    Says R S v before after → Says R T v before after
-says-same R {S} {T} e few (Least w) before after r =
+    (R : Relation) (p : ℕ) {S T P Q : Setting} → Same S T → S .M .states ≤ T .M .states → ((q : LoopedPair) → First P q → First Q q) →
+    (v : Verdict) (before after : List ℕ) → Says R S P p v before after → Says R T Q p v before after
+says-same R p {S} {T} {P} {Q} e few firsts (Least w) before after r =
     let m = pairs-rise few in
     record {
+      settle = r .settle;
       least = least-same e R (w .before) (w .after) (r .least);
       before-small = omega (arith, r .before-small);
       after-small = omega (arith, r .after-small);
       stays = r .stays;
     }
-says-same R {S} {T} e few (NoDecoder p) before after r =
-    let f = first-same e (pairOf p after) (r .first) in
+says-same R p {S} {T} {P} {Q} e few firsts (NoDecoder q) before after r =
+    let f = firsts (pairOf q after) (r .first) in
     record {
-      none = excludes T (pairOf p after) (f .valid) (same-sym e .closed);
+      none = λ b a w. r .none b a (works-same (same-sym e) b a w);
       first = f;
-      turned = turned-runs T (pairOf p after) (f .valid);
+      turned = turned-runs Q (pairOf q after) (f .valid);
       size = r .size;
       rest = r .rest;
     }
 
 -- ---- what a search that is not refused relies on
 
-pub search-accepted : (f : List ℕ) (fits : Bool) → searchRefusal f fits ≡ 0 → (fileRefusal f ≡ 0) × (fits ≡ true)
+pub record SearchAccepted (f : List ℕ) (p : ℕ) (fit : Bool) : Type 0 where
+  pub file : fileRefusal f ≡ 0
+  pub settle : p ≤ maxSettle
+  pub fits : fit ≡ true
+
+pub search-accepted : (f : List ℕ) (p : ℕ) (fit : Bool) → searchRefusal f p fit ≡ 0 → SearchAccepted f p fit
 unfolding searchRefusal
-search-accepted f fits e =
-    let a = first-none (fileRefusal f) (refuse (not fits) 11 0) e in
-    (a .0, refuse-not fits 11 0 (lit< tt) (a .1) .0)
+search-accepted f p fit e =
+    let small = leb p maxSettle in
+    let rest = refuse (not fit) 11 0 in
+    let a = first-none (fileRefusal f) (refuse (not small) 14 rest) e in
+    let b = refuse-not small 14 rest (lit< tt) (a .1) in
+    record { file = a .0; settle = leb-true _ _ (b .0); fits = refuse-not fit 11 0 (lit< tt) (b .1) .0 }

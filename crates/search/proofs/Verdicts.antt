@@ -47,7 +47,7 @@ module _ (c : Coder) (starts : ℕ) (conflicts : List ℕ) (sound : Sound c)
         (done .sources (no-sources c conflicts backs forwards)) needs
 
     pub window-says :
-        {R : Relation} → IsOrder R → (w : Window) (letters : List ℕ) → Chosen R need w → Says R S (Least w) letters letters
+        {R : Relation} {p : ℕ} → IsOrder R → (w : Window) (letters : List ℕ) → Chosen R p need w → Says R S S p (Least w) letters letters
     window-says order w letters h =
         let l =
         least-window c starts conflicts sound backs forwards found-back found-forward worst need (done .none none)
@@ -55,7 +55,7 @@ module _ (c : Coder) (starts : ℕ) (conflicts : List ℕ) (sound : Sound c)
         let s =
         sides-small c starts conflicts sound backs forwards found-back found-forward order closed (w .before)
         (w .after) l in
-        record { least = l; before-small = s .0; after-small = s .1; stays = refl }
+        record { settle = h .settle; least = l; before-small = s .0; after-small = s .1; stays = refl }
 
   -- a conflicting edge that is endless on both sides gives a valid pair
   pub some-valid : r ≡ true → SomeValid S
@@ -68,12 +68,12 @@ module _ (c : Coder) (starts : ℕ) (conflicts : List ℕ) (sound : Sound c)
       record { pair = q .0; valid = q .1; few = omega (arith, q .2, mul-le-mul (sound .states-high) (sound .states-high)) }
 
   pub pair-says :
-      (R : Relation) (p : LoopedPair) (letters after : List ℕ) → FoundPair c starts conflicts p letters after →
-      Says R S (NoDecoder p) letters after
-  pair-says R p letters after f = record {
-    none = excludes S (pairOf p after) (f .first .valid) closed;
+      (R : Relation) (p : ℕ) (q : LoopedPair) (letters after : List ℕ) → FoundPair c starts conflicts q letters after →
+      Says R S S p (NoDecoder q) letters after
+  pair-says R p q letters after f = record {
+    none = excludes S (pairOf q after) (f .first .valid) closed;
     first = f .first;
-    turned = turned-runs S (pairOf p after) (f .first .valid);
+    turned = turned-runs S (pairOf q after) (f .first .valid);
     size = f .size;
     rest = f .rest;
   }

@@ -18,20 +18,21 @@ pub enum SearchResult {
     Found(Verdict),
 }
 
-// Finds the least window that works for a coder in the default order, or the first looped pair where none does. Refusals 1 to 6, 11.
-pub fn search(file: &[u8], letters: &mut [u8]) -> SearchResult
-    ensures { λ r. ⌜ SearchPromise defaultOrder (now (file .entry)) (now (letters .entry)) r (now (letters .exit)) ⌝ }
+// Finds the least window with a settle count that works for a coder in the default order, or the first looped pair where none does.
+// Refusals 1 to 6, 14, 11.
+pub fn search(file: &[u8], settle: usize, letters: &mut [u8]) -> SearchResult
+    ensures { λ r. ⌜ SearchPromise defaultOrder (now (file .entry)) settle (now (letters .entry)) r (now (letters .exit)) ⌝ }
 {
-    search_in_order(file, Order::DEFAULT, letters)
+    search_in_order(file, Order::DEFAULT, settle, letters)
 }
 
 // The same in an order that the caller names.
-pub fn search_in_order(file: &[u8], order: Order, letters: &mut [u8]) -> SearchResult
-    ensures { λ r. ⌜ SearchPromise order (now (file .entry)) (now (letters .entry)) r (now (letters .exit)) ⌝ }
+pub fn search_in_order(file: &[u8], order: Order, settle: usize, letters: &mut [u8]) -> SearchResult
+    ensures { λ r. ⌜ SearchPromise order (now (file .entry)) settle (now (letters .entry)) r (now (letters .exit)) ⌝ }
 {
-    let k = inner::refusal(file, inner::WANTED <= letters.len());
+    let k = inner::refusal(file, settle, inner::WANTED <= letters.len());
     if k != 0 {
         return SearchResult::Refused(k);
     }
-    SearchResult::Found(inner::checked(file, order, letters))
+    SearchResult::Found(inner::checked(file, order, settle, letters))
 }

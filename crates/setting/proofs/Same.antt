@@ -1,40 +1,50 @@
 -- From the words of a coder's setting to the setting of its file.
 use mathlib.Core.Path.{_≡_, refl, ap, _∙_, subst}
+use mathlib.Core.Logic.{_≢_}
 use mathlib.Core.List.{List}
 use Prim.Native.Nat.{ℕ, _<_}
 use native.Mathlib.Omega.{arith}
 use Rattle.mealy.specs.Machine.{Machine}
-use Rattle.mealy.specs.Word.{Has}
-use Rattle.mealy.specs.Setting.{Same, Closed, Bounded, fromReachable, worded}
-use Rattle.mealy.proofs.ReachableStates.{reachable-closed, reachable-bounded}
-use Rattle.coder.specs.File.{machineOf, settingOf}
+use Rattle.mealy.specs.Word.{Has, Holds}
+use Rattle.mealy.specs.Setting.{Same, Closed, Bounded, afterLetters, worded}
+use Rattle.mealy.proofs.Members.{holds-member}
+use Rattle.mealy.proofs.SameSettings.{same-sym, same-starts}
+use Rattle.mealy.proofs.StartStates.{after-closed, after-bounded}
+use Rattle.coder.specs.File.{machineOf, settingAfter}
 use Rattle.coder.specs.Table.{coderOf, machineOfCoder, Sound}
 use Rattle.coder.specs.declared.inner.tables.Coder.{Coder}
 use Rattle.coder.proofs.Accepted.{Accepted}
 use Rattle.coder.proofs.Tables.{machine-same, sound-coder}
-use Rattle.setting.specs.Words.{settingOfCoder, WordsOf}
+use Rattle.setting.specs.Words.{settingOfCoder, fromWord, WordsOf}
 
 -- the start states of a coder's tables are states of it
-pub coder-bounded : {c : Coder} → Sound c → Bounded (settingOfCoder c)
-coder-bounded {c} sound = reachable-bounded (machineOfCoder c) (λ s i p l. sound .next-state s i) (sound .states-low)
+coder-bounded : (c : Coder) → Sound c → (p : ℕ) → Bounded (settingOfCoder c p)
+coder-bounded c sound = after-bounded (machineOfCoder c) (λ s i p l. sound .next-state s i) (sound .states-low)
+
+-- the word of the start states says which they are
+module _ (c : Coder) (p : ℕ) {starts : ℕ} (h : Holds (settingOfCoder c p .Start) starts) where
+  pub same-word : Same (fromWord c starts) (settingOfCoder c p)
+  same-word = same-sym (same-starts (machineOfCoder c) (λ i j. i ≢ j) (after-closed (machineOfCoder c) p) (h .has) (holds-member h))
+
+  pub word-bounded : Sound c → Bounded (fromWord c starts)
+  word-bounded sound s q = coder-bounded c sound p s (holds-member h s q)
 
 -- the setting of the words is that of the coder
 words-same :
-    {c : Coder} {starts : ℕ} {conflicts : List ℕ} → Sound c → WordsOf c starts conflicts →
-    Same (worded (machineOfCoder c) starts conflicts) (settingOfCoder c)
-words-same {c} {starts} sound w =
-    let S = settingOfCoder c in
+    {c : Coder} {p starts : ℕ} {conflicts : List ℕ} → Sound c → WordsOf c p starts conflicts →
+    Same (worded (machineOfCoder c) starts conflicts) (settingOfCoder c p)
+words-same {c} {p} {starts} sound w =
+    let S = settingOfCoder c p in
     let h = sound .inputs-high in
-    let start : (s : ℕ) → (s < c .states) × Has starts s → S .Start s =
-    λ s p. let l = p .0 in let n = sound .states-high in w .starts-are .only s (omega arith) (p .1) in
-    let start′ : (s : ℕ) → S .Start s → (s < c .states) × Has starts s = λ s p. (coder-bounded sound s p, w .starts-are .has s p) in
+    let start : (s : ℕ) → (s < c .states) × Has starts s → S .Start s = λ s q. holds-member (w .starts-are) s (q .1) in
+    let start′ : (s : ℕ) → S .Start s → (s < c .states) × Has starts s = λ s q. (coder-bounded c sound p s q, w .starts-are .has s q) in
     record {
-      closed = λ s i p l. start′ _ (reachable-closed (machineOfCoder c) s i (start s p) l);
+      closed = λ s i q l. start′ _ (after-closed (machineOfCoder c) p s i (start s q) l);
       inputs = refl;
       start = start;
       start′ = start′;
-      next = λ s i p l. refl;
-      out = λ s i p l. refl;
+      next = λ s i q l. refl;
+      out = λ s i q l. refl;
       conflict = λ i j l m. w .conflicts-are .conflict′ i j (omega arith) (omega arith);
       conflict′ = λ i j l m. w .conflicts-are .conflict i j (omega arith) (omega arith);
     }
@@ -47,11 +57,11 @@ module _ {c : Coder} {f : List ℕ} (e : c ≡ coderOf f) (a : Accepted f) where
   pub coder-machine : machineOfCoder c ≡ machineOf f
   coder-machine = ap machineOfCoder e ∙ machine-same f a
 
-  module _ {starts : ℕ} {conflicts : List ℕ} (w : WordsOf c starts conflicts) where
+  module _ {p starts : ℕ} {conflicts : List ℕ} (w : WordsOf c p starts conflicts) where
     -- the setting of the words is that of the file
-    pub same-setting : Same (worded (machineOfCoder c) starts conflicts) (settingOf f)
+    pub same-setting : Same (worded (machineOfCoder c) starts conflicts) (settingAfter f p)
     same-setting =
-        subst (λ (M : Machine). Same (worded (machineOfCoder c) starts conflicts) (fromReachable M)) coder-machine (words-same coder-sound w)
+        subst (λ (M : Machine). Same (worded (machineOfCoder c) starts conflicts) (afterLetters M p)) coder-machine (words-same coder-sound w)
 
     pub words-closed : Closed (worded (machineOfCoder c) starts conflicts)
     words-closed = same-setting .closed

@@ -1,17 +1,22 @@
--- The setting of a coder, and the words that say it.
+-- The settings of a coder's tables, and the words that say them.
 use Prim.Native.Nat.{ℕ, _<_}
 use mathlib.Core.List.{List}
 use lib.ListN.{length, getD}
 use mathlib.Core.Path.{_≡_}
+use mathlib.Core.Logic.{_≢_}
 use Rattle.mealy.specs.Word.{Has, Holds}
-use Rattle.mealy.specs.Setting.{Setting, fromReachable}
+use Rattle.mealy.specs.Setting.{Setting, afterLetters}
 use Rattle.coder.specs.Limits.{maxInputs}
 use Rattle.coder.specs.Table.{machineOfCoder}
 use Rattle.coder.specs.declared.inner.tables.Coder.{Coder}
 
--- The setting of a coder's tables. For an accepted file it is the file's (`same-setting` of proofs/Same.antt).
-abbrev pub settingOfCoder : Coder → Setting
-settingOfCoder c = fromReachable (machineOfCoder c)
+-- The setting of the windows with settle count p. For an accepted file it is the file's (`same-setting` of proofs/Same.antt).
+abbrev pub settingOfCoder : Coder → ℕ → Setting
+settingOfCoder c p = afterLetters (machineOfCoder c) p
+
+-- The setting whose runs start in the states of a word, whatever these are.
+abbrev pub fromWord : Coder → ℕ → Setting
+fromWord c starts = record { M = machineOfCoder c; Start = Has starts; Conflict = λ i j. i ≢ j }
 
 -- s is a start state: one of the n states, and in the word
 abbrev pub StartIn : ℕ → ℕ → ℕ → Type 0
@@ -27,7 +32,7 @@ pub record ConflictsOf (C : ℕ → ℕ → Type 0) (words : List ℕ) : Type 0 
   pub conflict : (i j : ℕ) → i < maxInputs → j < maxInputs → C i j → Has (getD words i 0) j
   pub conflict′ : (i j : ℕ) → i < maxInputs → j < maxInputs → Has (getD words i 0) j → C i j
 
--- the words say the coder's setting
-pub record WordsOf (c : Coder) (starts : ℕ) (conflicts : List ℕ) : Type 0 where
-  pub starts-are : Holds (settingOfCoder c .Start) starts
-  pub conflicts-are : ConflictsOf (settingOfCoder c .Conflict) conflicts
+-- the words say the coder's setting for the settle count p
+pub record WordsOf (c : Coder) (p starts : ℕ) (conflicts : List ℕ) : Type 0 where
+  pub starts-are : Holds (settingOfCoder c p .Start) starts
+  pub conflicts-are : ConflictsOf (settingOfCoder c p .Conflict) conflicts

@@ -30,20 +30,21 @@ none-more : {M : Machine} (k : ℕ) {u v : ℕ} → Holds (InSteps M k) u → Ho
 none-more {M} k a b e =
     holds-map (in-steps-reachable M k) (in-steps-all M k (λ s h. holds-member a s (rw e at (b .has s h)))) a
 
-module _ {M : Machine} (total : Total M) (some : 0 < M .states) where
+-- what the words of the steps lead to from a set of states
+pub by-words :
+    {M : Machine} {words : List ℕ} → StepsOf M words → (u : ℕ) {v : ℕ} → ((s : ℕ) → Has u s → s < M .states) →
+    Holds (Image (Leads words 0) (Has u)) v → Holds (Image (EntryTo M) (Has u)) v
+by-words {M} {words} steps u states =
+    holds-map (image-within {Q = Leads words 0} {Q′ = EntryTo M} {P = Has u} {P′ = Has u} (steps .to) (λ s h. h))
+    (λ t i. record { s = i .s; from = i .from; step = steps .from (i .s) t (states (i .s) (i .from)) (i .step) })
+
+module _ (M : Machine) (total : Total M) (some : 0 < M .states) where
   -- and so they are after N - 1 steps
   pub last-step : (k : ℕ) {u : ℕ} → M .states ≤ k + 1 → Holds (InSteps M k) u → Holds (Reachable M) u
   last-step k l = holds-map (λ s. in-steps↔reachable M total some k l s .0) (λ s. in-steps↔reachable M total some k l s .1)
 
-  -- what the words of the steps lead to
-  by-words :
-      {words : List ℕ} → StepsOf M words → (k : ℕ) {u v : ℕ} → Holds (InSteps M k) u → Holds (Image (Leads words 0) (Has u)) v →
-      Holds (Image (EntryTo M) (Has u)) v
-  by-words {words} steps k {u} a =
-      holds-map (image-within {Q = Leads words 0} {Q′ = EntryTo M} {P = Has u} {P′ = Has u} (steps .to) (λ s h. h))
-      (λ t i.
-      let l = in-steps-bounded M total some k (i .s) (holds-member a (i .s) (i .from)) in
-      record { s = i .s; from = i .from; step = steps .from (i .s) t l (i .step) })
+  pub in-steps-states : (k : ℕ) {u : ℕ} → Holds (InSteps M k) u → (s : ℕ) → Has u s → s < M .states
+  in-steps-states k a s h = in-steps-bounded M total some k s (holds-member a s h)
 
 -- ---- the loop, turn by turn: k - 1 steps are made, for any machine with these steps
 
@@ -61,12 +62,12 @@ module _ {words : List ℕ} {n : ℕ} where
     so-far-more {v} l b M e some total steps =
         let z : k + 1 - 1 ≡ suc (k - 1) = omega arith in
         let h = a M e some total steps in
-        subst (λ j. Holds (InSteps M j) (bitOr u v)) (sym z) (step-more (k - 1) h (by-words total some steps (k - 1) h b))
+        subst (λ j. Holds (InSteps M j) (bitOr u v)) (sym z) (step-more (k - 1) h (by-words steps u (in-steps-states M total some (k - 1) h) b))
 
     pub so-far-same : {v : ℕ} → Holds (Image (Leads words 0) (Has u)) v → bitOr u v ≡ u → ClosureOf words n u
     so-far-same b d M e some total steps =
         let h = a M e some total steps in
-        none-more (k - 1) h (step-more (k - 1) h (by-words total some steps (k - 1) h b)) d
+        none-more (k - 1) h (step-more (k - 1) h (by-words steps u (in-steps-states M total some (k - 1) h) b)) d
 
     pub so-far-end : n ≤ k → ClosureOf words n u
-    so-far-end l M e some total steps = last-step total some (k - 1) (omega arith) (a M e some total steps)
+    so-far-end l M e some total steps = last-step M total some (k - 1) (omega arith) (a M e some total steps)

@@ -1,4 +1,4 @@
--- The reachable states of a machine with at most 16 states as a word that is computed.
+-- The start states of a machine with at most 16 states as a word that is computed.
 use mathlib.Core.Path.{_≡_, refl, sym}
 use mathlib.Core.Bool.{cond}
 use Prim.Native.Nat.{ℕ, zero, suc, _/_, _%_, _^_, _≤_, _<_}
@@ -8,14 +8,16 @@ use lib.Bits.{bitOr}
 use lib.Dec.{eqb}
 use borrow.Author.Tests.{eq-eqb, ne-eqb}
 use Rattle.mealy.specs.Machine.{Machine, Total}
-use Rattle.mealy.specs.Reachable.{Reachable, EntryTo}
+use Rattle.mealy.specs.Reachable.{Reachable, StartAfter, EntryTo}
 use Rattle.mealy.specs.Image.{Image}
 use Rattle.mealy.specs.Word.{Has, Holds}
 use Rattle.mealy.proofs.Words.{holds-map, holds-none, holds-one}
 use Rattle.mealy.proofs.Members.{holds-member}
 use Rattle.mealy.proofs.OneMore.{next-below, holds-more}
-use Rattle.mealy.proofs.ReachableStates.{InSteps, in-steps-bounded}
-use Rattle.starts.proofs.Closure.{step-more, last-step}
+use Rattle.mealy.proofs.ReachableStates.{InSteps}
+use Rattle.mealy.proofs.StartStates.{after-bounded}
+use Rattle.starts.proofs.Closure.{step-more, last-step, in-steps-states}
+use Rattle.starts.proofs.After.{after-none, after-more}
 
 -- the states that the entries of state s on its first n letters lead to
 unfoldable pub entriesWord : Machine → ℕ → ℕ → ℕ
@@ -31,6 +33,11 @@ imageWord M u (suc n) = bitOr (imageWord M u n) (cond (eqb (u / 2 ^ n % 2) 1) (e
 unfoldable pub inStepsWord : Machine → ℕ → ℕ
 inStepsWord M zero = 1
 inStepsWord M (suc k) = let u = inStepsWord M k in bitOr u (imageWord M u (M .states))
+
+-- the start states of the settle count p
+unfoldable pub startsWord : Machine → ℕ → ℕ
+startsWord M zero = inStepsWord M (M .states)
+startsWord M (suc p) = imageWord M (startsWord M p) (M .states)
 
 module _ (M : Machine) (total : Total M) (some : 0 < M .states) (few : M .states ≤ 16) where
   entries-hold :
@@ -59,18 +66,24 @@ module _ (M : Machine) (total : Total M) (some : 0 < M .states) (few : M .states
   image-holds u zero m = holds-none (λ t h. let z = h .from in omega arith)
   image-holds u (suc n) m = holds-more (next-below (omega arith)) (image-holds u n (omega arith)) (state-holds u n (omega arith))
 
+  step-holds : (u : ℕ) → ((s : ℕ) → Has u s → s < M .states) → Holds (Image (EntryTo M) (Has u)) (imageWord M u (M .states))
+  step-holds u states =
+      holds-map (λ t h. record { s = h .s; from = h .step .0; step = h .step .1 })
+      (λ t h. record { s = h .s; from = states (h .s) (h .from); step = (h .from, h .step) }) (image-holds u (M .states) (omega arith))
+
   in-steps-hold : (k : ℕ) → Holds (InSteps M k) (inStepsWord M k)
   unfolding inStepsWord
   in-steps-hold zero = holds-one 0 (omega arith) refl (λ s e. e)
   in-steps-hold (suc k) =
       let a = in-steps-hold k in
-      let u = inStepsWord M k in
-      step-more k a
-      (holds-map (λ t h. record { s = h .s; from = h .step .0; step = h .step .1 })
-      (λ t h.
-      let l = in-steps-bounded M total some k (h .s) (holds-member a (h .s) (h .from)) in
-      record { s = h .s; from = l; step = (h .from, h .step) })
-      (image-holds u (M .states) (omega arith)))
+      step-more k a (step-holds (inStepsWord M k) (in-steps-states M total some k a))
 
-  pub reachable-holds : Holds (Reachable M) (inStepsWord M (M .states))
-  reachable-holds = last-step total some (M .states) (omega arith) (in-steps-hold (M .states))
+  reachable-holds : Holds (Reachable M) (inStepsWord M (M .states))
+  reachable-holds = last-step M total some (M .states) (omega arith) (in-steps-hold (M .states))
+
+  pub starts-hold : (p : ℕ) → Holds (StartAfter M p) (startsWord M p)
+  unfolding startsWord
+  starts-hold zero = after-none reachable-holds
+  starts-hold (suc p) =
+      let a = starts-hold p in
+      after-more p a (step-holds (startsWord M p) (λ s h. after-bounded M total some p s (holds-member a s h)))

@@ -3,7 +3,7 @@ ghost use Rattle.mealy.specs.Word.{Holds};
 ghost use Rattle.coder.specs.Table.{machineOfCoder, Sound};
 ghost use Rattle.fitting.specs.Tables.{Words};
 ghost use Rattle.setting.specs.Words.{settingOfCoder};
-ghost use Rattle.starts.specs.Steps.{StepsOf, ClosureOf};
+ghost use Rattle.starts.specs.Steps.{StepsOf, ClosureOf, AfterOf};
 use chains::inner::parts;
 use coder::inner::tables::Coder;
 use fitting::inner::sets::image;
@@ -39,11 +39,30 @@ fn closure(words: &[u16; 1024], states: usize) -> u16
     set
 }
 
-// The start states of a coder: its reachable states.
-pub fn start_states(c: Coder) -> u16
+// The states in which these steps end, `settle` of them, from the reachable states. Where a step changes nothing, no further one does.
+fn after(words: &[u16; 1024], reachable: u16, settle: usize) -> u16
+    requires { ⌜ Words (now words) ⌝ }
+    ensures { λ r. ⌜ AfterOf (now (words .entry)) reachable settle r ⌝ }
+{
+    let mut to = reachable;
+    let mut k = 0;
+    while k < settle {
+        let next = image(words, 0, to);
+        if next == to {
+            return to;
+        }
+        to = next;
+        k += 1;
+    }
+    to
+}
+
+// The start states of a coder for a settle count: where that many letters lead from its reachable states.
+pub fn start_states(c: Coder, settle: usize) -> u16
     requires { ⌜ Sound c ⌝ }
-    ensures { λ r. ⌜ Holds (settingOfCoder c .Start) r ⌝ }
+    ensures { λ r. ⌜ Holds (settingOfCoder c settle .Start) r ⌝ }
 {
     let words = steps(c);
-    closure(&words, c.states)
+    let reachable = closure(&words, c.states);
+    after(&words, reachable, settle)
 }

@@ -15,7 +15,7 @@ use Rattle.mealy.specs.Index.{windowAt}
 use Rattle.mealy.proofs.Answers.{length-outs, answer-unique, none↔no-run}
 use Rattle.mealy.proofs.Indices.{length-window}
 use Rattle.coder.specs.Refusal.{upon, answer}
-use Rattle.coder.specs.File.{entriesOf, fileOf, fileRefusal, outputsOf, machineOf, settingOf}
+use Rattle.coder.specs.File.{entriesOf, fileOf, fileRefusal, outputsOf, machineOf}
 use Rattle.coder.proofs.Refusals.{both-right}
 use Rattle.running.specs.Run.{runRefusal, runRefusalIn, RunPromise}
 use Rattle.running.specs.declared.RunResult as run-result
@@ -32,10 +32,10 @@ use Rattle.decoder.specs.Written.{Written}
 use Rattle.decoder.specs.Count.{CountPromise}
 use Rattle.decoder.specs.Refusal.{windowRefusal, stringRefusal, tableSize, tableRefusal}
 use Rattle.decoder.specs.Places.{places}
-use Rattle.decoder.specs.Window.{AnsweredRight, WindowPromise}
+use Rattle.decoder.specs.Window.{windowSetting, AnsweredRight, WindowPromise}
 use Rattle.decoder.specs.declared.WindowResult as window-result
 use Rattle.decoder.proofs.Accepting.{window-accepted}
-use Rattle.search.specs.Search.{searchRefusal, wanted, Says, RefusedSearch, SearchPromise}
+use Rattle.search.specs.Search.{searchRefusal, wanted, SaysOf, RefusedSearch, SearchPromise}
 use Rattle.search.specs.declared.SearchResult.{SearchResult}
 use Rattle.search.specs.declared.SearchResult as search-result
 use Rattle.search.specs.declared.SearchResult.the-variants.{Found}
@@ -109,17 +109,17 @@ demand-1 = record {
   string = λ f w received before r after p.
       moved _ _ (string-published f w received before []) (count-upon _ _ _ before r after p);
   table = λ f w before r after p. moved _ _ (table-published f w before []) (count-upon _ _ _ before r after p);
-  search = λ o f before r after p.
-      moved _ _ (ap (searchRefusal f) (sym (both-right (leb wanted (length before)))) ∙ search-published f before [])
-      (search-upon (searchRefusal f (leb wanted (length before))) _ r before after p);
+  search = λ o f p before r after h.
+      moved _ _ (ap (searchRefusal f p) (sym (both-right (leb wanted (length before)))) ∙ search-published f p before [])
+      (search-upon (searchRefusal f p (leb wanted (length before))) _ r before after h);
   check = λ f p r q. moved _ _ (check-published f p []) q;
   write = λ n i o entries before r after p.
       moved _ _ (write-published n i o entries before [])
       (both-answers (writeRefusalIn n i o entries (length before) true) _ _ _ _ (p .result) (p .bytes));
   run-from-C = λ f s xs before result r after result′.
       hosted-moved (ap (runRefusal f s xs) (one-more (leb (length xs) (length before)) result) ∙ run-published f s xs before (givenResult result));
-  search-from-C = λ f before result r after result′.
-      hosted-moved (ap (searchRefusal f) (one-more (leb wanted (length before)) result) ∙ search-published f before (givenResult result));
+  search-from-C = λ f p before result r after result′.
+      hosted-moved (ap (searchRefusal f p) (one-more (leb wanted (length before)) result) ∙ search-published f p before (givenResult result));
   decode-from-C = λ f w received before result r after result′.
       hosted-moved
       (ap (stringRefusal f w received) (one-more (leb (places (length received) w) (length before)) result) ∙
@@ -163,14 +163,14 @@ run-done f s xs before n e after p = go (runRefusalIn f s xs before) (p .result)
 window-answered :
     (f : List ℕ) (w : Window) (received : List ℕ) (v : Answer) →
     WindowPromise f w received (window-result.the-variants.Answered v) →
-    (windowRefusal f w received true ≡ 0) × Answers (settingOf f) received (w .before) (meaning v)
+    (windowRefusal f w received true ≡ 0) × Answers (windowSetting f w) received (w .before) (meaning v)
 window-answered f w received v = go (windowRefusal f w received true) refl
   where
     go :
         (k : ℕ) → windowRefusal f w received true ≡ k →
         upon k (λ j. window-result.the-variants.Answered v ≡ window-result.the-variants.Refused j)
         (AnsweredRight f w received (window-result.the-variants.Answered v)) →
-        (windowRefusal f w received true ≡ 0) × Answers (settingOf f) received (w .before) (meaning v)
+        (windowRefusal f w received true ≡ 0) × Answers (windowSetting f w) received (w .before) (meaning v)
     go zero e p =
         let d = p .is in
         let q : v ≡ p .answer = cc in
@@ -197,7 +197,7 @@ demand-2 = record {
   window = λ f w received v p.
       let h = window-answered f w received v p in
       let long = window-accepted f w received true (h .0) .long in
-      said (settingOf f) received (w .before) (omega arith) (meaning v) (h .1);
+      said (windowSetting f w) received (w .before) (omega arith) (meaning v) (h .1);
   string = λ f w received before n after p.
       let c = counted _ _ _ before n after p in (
         c .count,
@@ -205,7 +205,7 @@ demand-2 = record {
             let part = take (size w) (drop k received) in
             let q = c .count in
             let long : length part ≡ size w = length-take-le (size w) (drop k received) (simp length-drop (omega arith)) in
-            said-byte (settingOf f) part (w .before) (getD after k 0) (omega arith) (c .each k l),
+            said-byte (windowSetting f w) part (w .before) (getD after k 0) (omega arith) (c .each k l),
       );
   table = λ f w before n after p.
       let c = counted _ _ _ before n after p in (
@@ -213,7 +213,7 @@ demand-2 = record {
         λ k l.
             let part = windowAt (outputsOf f) (size w) k in
             let long = length-window (outputsOf f) (size w) k in
-            said-byte (settingOf f) part (w .before) (getD after k 0) (omega arith) (c .each k l),
+            said-byte (windowSetting f w) part (w .before) (getD after k 0) (omega arith) (c .each k l),
       );
   back = round-trip;
   back-from-C = host-round-trip;
@@ -221,31 +221,33 @@ demand-2 = record {
 
 -- ---- demand 3
 
-in-words : (o : Order) (w : Window) (b a : ℕ) → relationOf o (w .before) (w .after) b a → NoLater o w b a
-in-words FewestLetters w b a r = (r .first, r .second)
-in-words LeastLookahead w b a r = (r .first, r .second)
+pub no-later-said : (o : Order) (w : Window) (b a : ℕ) → relationOf o (w .before) (w .after) b a → NoLater o w b a
+no-later-said FewestLetters w b a r = (r .first, r .second)
+no-later-said LeastLookahead w b a r = (r .first, r .second)
 
 demanded :
-    (o : Order) (f before : List ℕ) (v : Verdict) (after : List ℕ) → SearchPromise o f before (Found v) after → Demanded o f v after
-demanded o f before v after p =
-    let says : Says (relationOf o) (settingOf f) v before after = found o f before v after p .says in
+    (o : Order) (f : List ℕ) (p : ℕ) (before : List ℕ) (v : Verdict) (after : List ℕ) → SearchPromise o f p before (Found v) after →
+    Demanded o f p v after
+demanded o f p before v after h =
+    let says : SaysOf o f p v before after = found o f p before v after h .says in
     record {
-      exactly = no-decoder-exactly o f before v after p;
-      valid = λ q e. let s : Says (relationOf o) (settingOf f) (NoDecoder q) before after = rw e at says in s .first .valid;
-      first = λ q e. let s : Says (relationOf o) (settingOf f) (NoDecoder q) before after = rw e at says in s .first;
-      turned = λ q e. let s : Says (relationOf o) (settingOf f) (NoDecoder q) before after = rw e at says in s .turned;
-      works = λ w e. let s : Says (relationOf o) (settingOf f) (Least w) before after = rw e at says in s .least .works;
-      no-later = λ w e b a h.
-          let s : Says (relationOf o) (settingOf f) (Least w) before after = rw e at says in
-          in-words o w b a (s .least .least b a h);
+      exactly = no-decoder-exactly o f p before v after h;
+      valid = λ q e. let s : SaysOf o f p (NoDecoder q) before after = rw e at says in s .first .valid;
+      first = λ q e. let s : SaysOf o f p (NoDecoder q) before after = rw e at says in s .first;
+      turned = λ q e. let s : SaysOf o f p (NoDecoder q) before after = rw e at says in s .turned;
+      settle = λ w e. let s : SaysOf o f p (Least w) before after = rw e at says in s .settle;
+      works = λ w e. let s : SaysOf o f p (Least w) before after = rw e at says in s .least .works;
+      no-later = λ w e b a k.
+          let s : SaysOf o f p (Least w) before after = rw e at says in
+          no-later-said o w b a (s .least .least b a k);
     }
 
 pub demand-3 : Demand3
 demand-3 = record {
   search = demanded;
-  search-from-C = λ f before result after result′ h.
-      let g = search-found f before result after result′ h in
-      (g .verdict, g .fields, demanded defaultOrder f before (g .verdict) after (g .promised));
+  search-from-C = λ f p before result after result′ h.
+      let g = search-found f p before result after result′ h in
+      (g .verdict, g .fields, demanded defaultOrder f p before (g .verdict) after (g .promised));
 }
 
 -- ---- the calls from C
@@ -253,7 +255,7 @@ demand-3 = record {
 pub from-c : FromC
 from-c = record {
   run = λ f s xs before result r after result′ long h. run-handed result long f s xs before r after result′ h;
-  search = λ f before result r after result′ long h. search-handed result long f before r after result′ h;
+  search = λ f p before result r after result′ long h. search-handed result long f p before r after result′ h;
   decode = λ f w received before result r after result′ long h. decode-handed result long f w received before r after result′ h;
   table = λ f w before result r after result′ long h. table-handed result long f w before r after result′ h;
   check = λ f p result r result′ long h. check-handed result long f p r result′ h;

@@ -103,11 +103,11 @@ given {k} {Stays} {Given} h = go k (h .number) (h .outcome)
     go (suc n) e g = absurd (omega arith)
 
 pub search-found :
-    (f before result after result′ : List ℕ) → SearchHosted f before result 0 after result′ →
-    FoundFromC f before result after result′
-search-found f before result after result′ h =
+    (f : List ℕ) (p : ℕ) (before result after result′ : List ℕ) → SearchHosted f p before result 0 after result′ →
+    FoundFromC f p before result after result′
+search-found f p before result after result′ h =
     let g = given h in
-    let z = accepted-search f before result (sym (h .number)) .asked in
+    let z = accepted-search f p before result (sym (h .number)) .asked in
     record {
       verdict = g .verdict;
       promised = upon-done _ _ _ z (record { verdict = g .verdict; is = refl; says = g .says });
@@ -143,11 +143,11 @@ module _ (result : List ℕ) (long : resultBytes ≤ length result) where
       (rw (both (leb (length xs) (length before))) at h)
 
   pub search-handed :
-      (f before : List ℕ) (r : ℕ) (after result′ : List ℕ) → SearchHosted f before result r after result′ →
-      Handed (λ own. SearchPromise defaultOrder f before own after) laidSearch result r result′
+      (f : List ℕ) (p : ℕ) (before : List ℕ) (r : ℕ) (after result′ : List ℕ) → SearchHosted f p before result r after result′ →
+      Handed (λ own. SearchPromise defaultOrder f p before own after) laidSearch result r result′
   unfolding fieldsOf
-  search-handed f before r after result′ h =
-      hand (searchRefusal f (leb wanted (length before)))
+  search-handed f p before r after result′ h =
+      hand (searchRefusal f p (leb wanted (length before)))
       (λ e g. record {
         own = search.the-variants.Found (g .verdict);
         promised = rw e (record { verdict = g .verdict; is = refl; says = g .says });

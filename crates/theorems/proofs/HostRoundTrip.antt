@@ -38,41 +38,41 @@ module _ (f : List ℕ) (file-ok : fileRefusal f ≡ 0) where
   high : pairs (machineOf f .states) ≤ maxSide
   high = rw (states-are f) (pairs-high (statesOf f) (accepted f file-ok .entries .limits .states-high))
 
-  -- a window that a search reports is the one that the host reads
+  -- a window that a search reports is the one that the host reads, with the host's own settle count
   window-read :
-      (letters letters′ result : List ℕ) (v : Verdict) → SearchPromise defaultOrder f letters (Found v) letters′ →
-      fieldAt (withFields result (verdictFields v)) 0 ≡ 0 → v ≡ Least (windowRead (withFields result (verdictFields v)))
-  window-read letters letters′ result (Least w) p e =
-      let h = found defaultOrder f letters (Least w) letters′ p .says in
+      (p : ℕ) (letters letters′ result : List ℕ) (v : Verdict) → SearchPromise defaultOrder f p letters (Found v) letters′ →
+      fieldAt (withFields result (verdictFields v)) 0 ≡ 0 → v ≡ Least (windowRead (withFields result (verdictFields v)) p)
+  window-read p letters letters′ result (Least w) g e =
+      let h = found defaultOrder f p letters (Least w) letters′ g .says in
       let ns : List ℕ = 0 ∷ w .before ∷ w .after ∷ [] in
       let b = field-at result ns 1 (lit< tt) (omega (arith, h .before-small, high)) in
       let a = field-at result ns 2 (lit< tt) (omega (arith, h .after-small, high)) in
-      ap Least (sym (ap₂ window b a))
-  window-read letters letters′ result (NoDecoder q) p e =
+      ap (λ (n : ℕ). Least (window (w .before) (w .after) n)) (h .settle) ∙ ap Least (sym (ap₂ (λ (x y : ℕ). window x y p) b a))
+  window-read p letters letters′ result (NoDecoder q) g e =
       let z = field-at result (verdictFields (NoDecoder q)) 0 (lit< tt) (lit< tt) in
       absurd (omega arith)
 
   window-found :
-      (letters result letters′ result′ : List ℕ) → SearchHosted f letters result 0 letters′ result′ → fieldAt result′ 0 ≡ 0 →
-      SearchPromise defaultOrder f letters (Found (Least (windowRead result′))) letters′
-  window-found letters result letters′ result′ found e =
-      let v = search-found f letters result letters′ result′ found in
+      (p : ℕ) (letters result letters′ result′ : List ℕ) → SearchHosted f p letters result 0 letters′ result′ → fieldAt result′ 0 ≡ 0 →
+      SearchPromise defaultOrder f p letters (Found (Least (windowRead result′ p))) letters′
+  window-found p letters result letters′ result′ found e =
+      let v = search-found f p letters result letters′ result′ found in
       rw (v .fields)
-      (rw (window-read letters letters′ result (v .verdict) (v .promised) (rw (v .fields) at e)) at (v .promised))
+      (rw (window-read p letters letters′ result (v .verdict) (v .promised) (rw (v .fields) at e)) at (v .promised))
 
 -- ---- the three calls
 
 pub host-round-trip : LettersComeBackFromC
-host-round-trip f s xs coded small before₁ result₁ r₁ after₁ result₁′ room₁ long₁ ran before₂ result₂ after₂ result₂′ found is-window
+host-round-trip f s xs coded small before₁ result₁ r₁ after₁ result₁′ room₁ long₁ ran p before₂ result₂ after₂ result₂′ found is-window
     before₃ result₃ r₃ after₃ result₃′ room₃ long₃ decoded =
-    let w = windowRead result₂′ in
+    let w = windowRead result₂′ p in
     let u = run-handed result₁ long₁ f s xs before₁ r₁ after₁ result₁′ ran in
     let ended = rw (not-refused f s xs coded before₁ room₁) at (u .promised .result) in
     let sent = first-read result₁ (laidRun (u .own)) (length xs) _ (ap laidRun ended) small (u .number) (u .fields) in
     let v = decode-handed result₃ long₃ f w (take (length xs) after₁) before₃ r₃ after₃ result₃′ (rw (sent .1) at decoded) in
     let t =
-    round-trip f s xs coded before₁ (u .own) after₁ room₁ (u .promised) defaultOrder before₂ w after₂
-    (window-found f (coded .file) before₂ result₂ after₂ result₂′ found is-window) before₃ (v .own) after₃ room₃ (v .promised) in
+    round-trip f s xs coded before₁ (u .own) after₁ room₁ (u .promised) defaultOrder p before₂ w after₂
+    (window-found f (coded .file) p before₂ result₂ after₂ result₂′ found is-window) before₃ (v .own) after₃ room₃ (v .promised) in
     let few : FieldHolds (places (length xs) w) = omega arith in
     let got = first-read result₃ (laidCount (v .own)) (places (length xs) w) [] (ap laidCount (t .counted)) few (v .number) (v .fields) in
     record { ran = sent .0; sent = sent .1; done = got .0; counted = got .1; back = t .back }

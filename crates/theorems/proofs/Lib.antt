@@ -9,6 +9,8 @@ pub mod TableLimit
 pub mod Tests
 pub mod Starred
 pub mod SearchChecked
+pub mod Alike
 pub mod SpareStates
+pub mod SettleCounts
 pub mod TableShows
 pub mod Demands

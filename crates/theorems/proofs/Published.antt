@@ -10,14 +10,14 @@ use lib.Dec.{ltb, leb, eqb}
 use borrow.Author.Tests.{eq-eqb, ne-eqb, ltb-false, eqb-true}
 use Rattle.mealy.specs.LoopedPair.{LoopedPair}
 use Rattle.coder.specs.Refusal.{refuse, first, allBelow}
-use Rattle.coder.specs.Limits.{maxSide}
+use Rattle.coder.specs.Limits.{maxSide, maxSettle}
 use Rattle.coder.specs.File.{versionOf, countField, statesOf, inputsOf, outputsOf, entriesOf, inRange, entryInRange, entriesRefusal, fileRefusal}
 use Rattle.coder.proofs.Refusals.{both-right}
 use Rattle.running.specs.Run.{runRefusal}
 use Rattle.values.specs.Window.{size}
 use Rattle.values.specs.declared.Window.{Window}
 use Rattle.table_size.specs.Size.{maxTable}
-use Rattle.decoder.specs.Refusal.{sidesRefusal, windowRefusal, stringRefusal, tableSize, tableRefusal}
+use Rattle.decoder.specs.Refusal.{limitsRefusal, windowRefusal, stringRefusal, tableSize, tableRefusal}
 use Rattle.search.specs.Search.{searchRefusal}
 use Rattle.writer.specs.Write.{writeRefusal}
 use Rattle.checker.specs.Check.{checkRefusal}
@@ -94,49 +94,52 @@ module _ (f : List ℕ) where
   run-published s xs before more = sym (rw (both-right (ltb s (statesOf f))) (file-first _))
 
   pub search-published :
-      (before : List ℕ) (more : List Bytes) →
-      searchRefusal f (longEnough (givenSearch f before more .buffers)) ≡ refusalOf (givenSearch f before more)
+      (p : ℕ) (before : List ℕ) (more : List Bytes) →
+      searchRefusal f p (longEnough (givenSearch f p before more .buffers)) ≡ refusalOf (givenSearch f p before more)
   unfolding searchRefusal
-  search-published before more = sym (file-first _)
+  search-published p before more = sym (rw (both-right (leb p maxSettle)) (file-first _))
 
   pub check-published :
       (p : LoopedPair) (more : List Bytes) → checkRefusal f p (longEnough more) ≡ refusalOf (givenCheck f p more)
   unfolding checkRefusal
   check-published p more = sym (rw (both-right, both-right) (file-first _))
 
-  -- 1 to 6 and 8, in front of others
-  sides-first :
+  -- 1 to 6, 8 and 14, in front of others
+  limits-first :
       (w : Window) (x : ℕ) →
-      fileFirst (refuse (not (leb (w .before) maxSide && (leb (w .after) maxSide && true))) 8 x) ≡ first (sidesRefusal f w) x
-  unfolding sidesRefusal
-  sides-first w x =
-      rw (both-right (leb (w .after) maxSide))
+      fileFirst
+      (refuse (not (leb (w .before) maxSide && (leb (w .after) maxSide && true))) 8
+      (refuse (not (leb (w .settle) maxSettle && true)) 14 x)) ≡ first (limitsRefusal f w) x
+  unfolding limitsRefusal
+  limits-first w x =
+      rw (both-right (leb (w .after) maxSide), both-right (leb (w .settle) maxSettle))
       (file-first _
-      ∙ ap (first (fileRefusal f)) (eight (leb (w .before) maxSide && leb (w .after) maxSide))
+      ∙ ap (first (fileRefusal f)) (two (leb (w .before) maxSide && leb (w .after) maxSide) (leb (w .settle) maxSettle))
       ∙ sym (first-first (fileRefusal f) _ x))
     where
-      eight : (t : Bool) → refuse (not t) 8 x ≡ first (refuse (not t) 8 0) x
-      eight true = refl
-      eight false = refl
+      two : (t u : Bool) → refuse (not t) 8 (refuse (not u) 14 x) ≡ first (refuse (not t) 8 (refuse (not u) 14 0)) x
+      two true true = refl
+      two true false = refl
+      two false u = refl
 
   pub window-published :
       (w : Window) (received : List ℕ) (more : List Bytes) →
       windowRefusal f w received (longEnough more) ≡ refusalOf (givenWindow f w received more)
   unfolding windowRefusal
-  window-published w received more = sym (rw (both-right (eqb (length received) (size w))) (sides-first w _))
+  window-published w received more = sym (rw (both-right (eqb (length received) (size w))) (limits-first w _))
 
   pub string-published :
       (w : Window) (received before : List ℕ) (more : List Bytes) →
       stringRefusal f w received (longEnough (givenString f w received before more .buffers)) ≡
       refusalOf (givenString f w received before more)
   unfolding stringRefusal
-  string-published w received before more = sym (sides-first w _)
+  string-published w received before more = sym (limits-first w _)
 
   pub table-published :
       (w : Window) (before : List ℕ) (more : List Bytes) →
       tableRefusal f w (longEnough (givenTable f w before more .buffers)) ≡ refusalOf (givenTable f w before more)
   unfolding tableRefusal
-  table-published w before more = sym (rw (both-right (leb (tableSize (outputsOf f) w) maxTable)) (sides-first w _))
+  table-published w before more = sym (rw (both-right (leb (tableSize (outputsOf f) w) maxTable)) (limits-first w _))
 
 -- ---- the writer, which is given no file
 

@@ -11,9 +11,9 @@ use borrow.Author.Tests.{lt-ltb, le-leb}
 use Rattle.mealy.specs.Machine.{Machine, outs, Letters}
 use Rattle.mealy.specs.Product.{pairs}
 use Rattle.mealy.proofs.Answers.{length-outs}
-use Rattle.coder.specs.Limits.{maxSide}
+use Rattle.coder.specs.Limits.{maxSide, maxSettle}
 use Rattle.coder.specs.Refusal.{lettersBelow}
-use Rattle.coder.specs.File.{statesOf, inputsOf, outputsOf, machineOf, settingOf}
+use Rattle.coder.specs.File.{statesOf, inputsOf, outputsOf, machineOf}
 use Rattle.running.specs.Run.{runRefusal, runRefusalIn, RunPromise}
 use Rattle.running.specs.declared.RunResult.{RunResult}
 use Rattle.coder.proofs.Accepted.{accepted}
@@ -22,8 +22,9 @@ use Rattle.product.proofs.Depths.{pairs-high}
 use Rattle.values.specs.declared.Window.{Window}
 use Rattle.values.specs.declared.CountResult.the-variants.{Done}
 use Rattle.search.specs.declared.Verdict.the-variants.{Least}
+use Rattle.search.proofs.Files.{search-accepted}
 use Rattle.search.proofs.Determined.{found}
-use Rattle.decoder.specs.Refusal.{sidesRefusal, stringRefusal}
+use Rattle.decoder.specs.Refusal.{limitsRefusal, stringRefusal}
 use Rattle.decoder.specs.Places.{places, stringRefusalIn, StringPromise}
 use Rattle.decoder.proofs.ComeBack.{string-comes-back}
 use Rattle.theorems.specs.RoundTrip.{Coded, LettersComeBack}
@@ -45,28 +46,25 @@ unfolding machineOf
 states-are f = refl
 
 module _ (f : List ℕ) (s : ℕ) (xs : List ℕ) (coded : Coded f s xs) where
-  -- the run starts where the runs of a window may start
-  is-start : settingOf f .Start s
-  is-start = coded .start
-
   start-low : s < statesOf f
-  start-low = rw (states-are f) at (file-bounded f (accepted f (coded .file)) s is-start)
+  start-low = rw (states-are f) at (file-bounded f (accepted f (coded .file)) s (coded .start))
 
   pub not-refused : (before : List ℕ) → length xs ≤ length before → runRefusalIn f s xs before ≡ 0
   unfolding runRefusal
   not-refused before l = rw (coded .file, lt-ltb s (statesOf f) start-low, le-leb (length xs) (length before) l, letters-test (inputsOf f) xs (coded .letters))
 
-  sides-ok : (w : Window) → w .before ≤ maxSide → w .after ≤ maxSide → sidesRefusal f w ≡ 0
-  unfolding sidesRefusal
-  sides-ok w l m = rw (coded .file, le-leb (w .before) maxSide l, le-leb (w .after) maxSide m)
+  limits-ok : (w : Window) → w .before ≤ maxSide → w .after ≤ maxSide → w .settle ≤ maxSettle → limitsRefusal f w ≡ 0
+  unfolding limitsRefusal
+  limits-ok w l m n =
+      rw (coded .file, le-leb (w .before) maxSide l, le-leb (w .after) maxSide m, le-leb (w .settle) maxSettle n)
 
   string-ok :
-      (w : Window) (received before : List ℕ) → w .before ≤ maxSide → w .after ≤ maxSide →
+      (w : Window) (received before : List ℕ) → w .before ≤ maxSide → w .after ≤ maxSide → w .settle ≤ maxSettle →
       places (length received) w ≤ length before → Letters (outputsOf f) received →
       stringRefusalIn f w received (length before) true ≡ 0
   unfolding stringRefusal
-  string-ok w received before l m n h =
-      rw (sides-ok w l m, le-leb (places (length received) w) (length before) n, letters-test (outputsOf f) received h)
+  string-ok w received before l m k n h =
+      rw (limits-ok w l m k, le-leb (places (length received) w) (length before) n, letters-test (outputsOf f) received h)
 
   -- the letters that a run wrote
   wrote :
@@ -77,19 +75,24 @@ module _ (f : List ℕ) (s : ℕ) (xs : List ℕ) (coded : Coded f s xs) where
       (take-at (outs (machineOf f) s xs) (drop (length xs) before) (length xs) (length-outs (machineOf f) s xs))
 
 pub round-trip : LettersComeBack
-round-trip f s xs coded before₁ r₁ after₁ l p o before₂ w after₂ q before₃ r₃ after₃ m d =
+round-trip f s xs coded before₁ r₁ after₁ l h o p before₂ w after₂ q before₃ r₃ after₃ m d =
     let os = outs (machineOf f) s xs in
-    let report = found o f before₂ (Least w) after₂ q .says in
+    let g = found o f p before₂ (Least w) after₂ q in
+    let report = g .says in
+    let small = search-accepted f p _ (g .accepted) .settle in
     let limit = accepted f (coded .file) .entries .limits .states-high in
     let high : pairs (machineOf f .states) ≤ maxSide = rw (states-are f) (pairs-high (statesOf f) limit) in
-    let d′ : StringPromise f w os before₃ r₃ after₃ = rw (wrote f s xs coded before₁ after₁ r₁ l p) at d in
+    let d′ : StringPromise f w os before₃ r₃ after₃ = rw (wrote f s xs coded before₁ after₁ r₁ l h) at d in
     let long : length os ≡ length xs = length-outs (machineOf f) s xs in
     let z : stringRefusalIn f w os (length before₃) true ≡ 0 =
-    string-ok f s xs coded w os before₃ (omega (arith, report .before-small)) (omega (arith, report .after-small)) (rw long m)
+    string-ok f s xs coded w os before₃ (omega (arith, report .before-small)) (omega (arith, report .after-small))
+    (omega (arith, report .settle)) (rw long m)
     (outs-letters (machineOf f) (outputsOf f) (output-below f (accepted f (coded .file))) s xs) in
     record {
-      ran = rw (not-refused f s xs coded before₁ l) at (p .result);
+      ran = rw (not-refused f s xs coded before₁ l) at (h .result);
       counted = (rw z at (d′ .result)) ∙ ap (λ n. Done (places n w)) long;
       back =
-          string-comes-back f w s xs before₃ r₃ after₃ (report .least .works) (is-start f s xs coded) (coded .letters) z d′;
+          λ k ahead n.
+          string-comes-back f w s xs before₃ r₃ after₃ (rw (report .settle) (report .least .works)) (coded .start) (coded .letters) z d′ k n
+          ahead;
     }

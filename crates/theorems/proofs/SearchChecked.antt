@@ -29,24 +29,24 @@ use Rattle.theorems.proofs.RoundTrip.{letters-test}
 
 -- For a "no decoder", the check of that pair with the bytes of its letters, the first ones of the buffer, is not refused and says yes.
 pub search-checked :
-    (o : Order) (f before : List ℕ) (p : LoopedPair) (after : List ℕ) (r : CheckResult) →
-    SearchPromise o f before (Found (NoDecoder p)) after →
-    CheckPromise f (pairOf p (take (2 * letters (pairOf p after)) after)) r → r ≡ Checked true
+    (o : Order) (f : List ℕ) (p : ℕ) (before : List ℕ) (q : LoopedPair) (after : List ℕ) (r : CheckResult) →
+    SearchPromise o f p before (Found (NoDecoder q)) after →
+    CheckPromise f (pairOf q (take (2 * letters (pairOf q after)) after)) r → r ≡ Checked true
 unfolding machineOf checkRefusal
-search-checked o f before p after r s c =
-    let h = found o f before (NoDecoder p) after s in
+search-checked o f p before q after r s c =
+    let h = found o f p before (NoDecoder q) after s in
     let v = h .says .first .valid in
-    let n = 2 * letters (pairOf p after) in
+    let n = 2 * letters (pairOf q after) in
     let long = length-take-le n after (v .held) in
-    let file = search-accepted f (leb wanted (length before)) (h .accepted) .0 in
+    let file = search-accepted f p (leb wanted (length before)) (h .accepted) .file in
     let low = file-bounded f (accepted f file) in
-    let fine : checkRefusal f (pairOf p (take n after)) true ≡ 0 =
+    let fine : checkRefusal f (pairOf q (take n after)) true ≡ 0 =
     rw (
       file,
-      lt-ltb (p .s) (statesOf f) (low (p .s) (v .start first)),
-      lt-ltb (p .t) (statesOf f) (low (p .t) (v .start second)),
+      lt-ltb (q .s) (statesOf f) (low (q .s) (v .start first)),
+      lt-ltb (q .t) (statesOf f) (low (q .t) (v .start second)),
       eq-eqb (length (take n after)) n long,
-      letters-test (inputsOf f) (take n after) (valid-letters (settingOf f) (pairOf p after) v),
+      letters-test (inputsOf f) (take n after) (valid-letters (settingOf f) (pairOf q after) v),
     ) in
-    let g : CheckedRight f (pairOf p (take n after)) r = rw fine at c in
-    checked-as f (pairOf p (take n after)) g (judges-yes (valid-cut (settingOf f) (pairOf p after) v))
+    let g : CheckedRight f (pairOf q (take n after)) r = rw fine at c in
+    checked-as f (pairOf q (take n after)) g (judges-yes (valid-cut (settingOf f) (pairOf q after) v))

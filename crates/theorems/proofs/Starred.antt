@@ -7,7 +7,7 @@ use native.Mathlib.Omega.{arith}
 use lib.ListN.{length, getD, take, drop, take-append-drop}
 use lib.Seq.{take-all}
 use lib.Dec.{leb, eqb}
-use borrow.Author.Tests.{eqb-true, le-leb, not-true}
+use borrow.Author.Tests.{eqb-true, leb-true, le-leb, not-true}
 use lib.Count.{leadingZeros}
 use Rattle.mealy.specs.Machine.{outs, end}
 use Rattle.mealy.specs.Order.{Least as LeastOf}
@@ -17,12 +17,17 @@ use Rattle.mealy.proofs.FirstPairs.{first-unique}
 use Rattle.mealy.specs.Answer.{byteOf}
 use Rattle.mealy.specs.Index.{windowAt}
 use Rattle.mealy.proofs.Indices.{length-window}
-use Rattle.mealy.proofs.ReachableStates.{reachable-closed}
+use Rattle.mealy.specs.Reachable.{Reachable}
+use Rattle.mealy.specs.Word as member
+use Rattle.mealy.proofs.Words.{holds-map}
+use Rattle.mealy.proofs.StartStates.{start-zero, after-closed}
+use Rattle.mealy.proofs.PairStarts.{valid-after}
 use Rattle.mealy.proofs.LoopedPairs.{excludes}
 use Rattle.mealy.proofs.LeastWindows.{least-unique}
+use Rattle.coder.specs.Limits.{maxSettle}
 use Rattle.coder.specs.Refusal.{allBelow}
 use Rattle.coder.specs.BigEndian.{bigEndian}
-use Rattle.coder.specs.File.{within, inRange, entryInRange, entriesRefusal, fileRefusal, fileOf, entryOf, statesOf, inputsOf, outputsOf, machineOf, settingOf}
+use Rattle.coder.specs.File.{within, inRange, entryInRange, entriesRefusal, fileRefusal, fileOf, entryOf, statesOf, inputsOf, outputsOf, machineOf, settingOf, settingAfter}
 use Rattle.coder.specs.Table.{table, coderOf, tableAt}
 use Rattle.coder.proofs.Refusals.{true-false, both-true, all-at}
 use Rattle.coder.proofs.Accepted.{accepted}
@@ -46,17 +51,17 @@ use Rattle.fitting.proofs.Answers.{right-unique, right-byte, right-byte-unique}
 use Rattle.filling.specs.Sets.{contribution, gather, add, added}
 use Rattle.filling.specs.Window.{pass, unionOf, decoded}
 use Rattle.decoder.specs.Written.{Written}
-use Rattle.decoder.specs.Refusal.{sidesRefusal, windowRefusal, tableSize, tableRefusal}
+use Rattle.decoder.specs.Refusal.{limitsRefusal, windowRefusal, tableSize, tableRefusal}
 use Rattle.decoder.specs.Window.{AnsweredRight}
 use Rattle.decoder.specs.Table.{EntryOf, tableRefusalIn}
 use Rattle.decoder.specs.declared.WindowResult.the-variants.{Answered}
 use Rattle.decoder.proofs.Accepting.{window-accepted}
 use Rattle.decoder.proofs.Writing.{written-bytes, written-unique}
-use Rattle.decoder.proofs.Decoding.{startsOf, starts-hold, file-right}
-use Rattle.starts.proofs.Computed.{entriesWord, imageWord, inStepsWord}
+use Rattle.decoder.proofs.Decoding.{startsOf, file-starts, file-right}
+use Rattle.starts.proofs.Computed.{entriesWord, imageWord, inStepsWord, startsWord}
 use Rattle.placing.specs.Placed.{withFront}
 use Rattle.writer.proofs.Writing.{write-given}
-use Rattle.search.specs.Search.{searchRefusal, wanted, Says, FoundVerdict, SearchPromise}
+use Rattle.search.specs.Search.{searchRefusal, wanted, SaysOf, FoundVerdict, SearchPromise}
 use Rattle.search.specs.declared.Verdict.{Verdict}
 use Rattle.search.specs.declared.Verdict.the-variants.{Least, NoDecoder}
 use Rattle.search.specs.declared.SearchResult.{SearchResult}
@@ -92,69 +97,70 @@ same-answer Several (Letter y) e = absurd (true-false e refl)
 same-answer Several None e = absurd (true-false e refl)
 
 -- the byte of the window with index k
-abbrev entryByte : List ℕ → ℕ → ℕ → ℕ → ℕ
-entryByte f n b k = byteOf (meaning (decoded (coderOf f) (startsOf f) (windowAt (outputsOf f) n k) b))
+abbrev entryByte : List ℕ → ℕ → ℕ → ℕ → ℕ → ℕ
+entryByte f p n b k = byteOf (meaning (decoded (coderOf f) (startsOf f p) (windowAt (outputsOf f) n k) b))
 
 unfoldable test : List ℕ → Claim → Bool
 test f (claimed.counts n i o) = eqb (statesOf f) n && (eqb (inputsOf f) i && eqb (outputsOf f) o)
 test f (claimed.written n i o entries) = eqb (entriesRefusal n i o entries) 0 && sameList (fileOf n i o entries) f
-test f (claimed.window o b a) = leastTest (machineOf f) (startsOf f) o b a
-test f (claimed.no-decoder s t bytes) = firstTest (machineOf f) (startsOf f) s t bytes && eqb (checkRefusal f (claimed.pair s t bytes) true) 0
+test f (claimed.window o b a p) = leb p maxSettle && leastTest (machineOf f) (startsOf f p) o b a
+test f (claimed.no-decoder s t bytes) = firstTest (machineOf f) (startsOf f 0) s t bytes && eqb (checkRefusal f (claimed.pair s t bytes) true) 0
 test f (claimed.not-valid s t bytes) =
-    not (validTest (machineOf f) (startsOf f) (claimed.pair s t bytes)) && eqb (checkRefusal f (claimed.pair s t bytes) true) 0
+    not (validTest (machineOf f) (startsOf f 0) (claimed.pair s t bytes)) && eqb (checkRefusal f (claimed.pair s t bytes) true) 0
 test f claimed.different-outputs = differentTest (machineOf f)
-test f (claimed.answer b a w v) =
-    eqb (windowRefusal f (window b a) w true) 0 && sameAnswer (decoded (coderOf f) (startsOf f) w b) v
-test f (claimed.table b a bytes) =
-    (eqb (tableRefusal f (window b a) true) 0 && (eqb (length bytes) (tableSize (outputsOf f) (window b a)) && allBelow (length bytes) (λ k. eqb (getD bytes k 0) (entryByte f (size (window b a)) b k))))
+test f (claimed.answer b a p w v) =
+    eqb (windowRefusal f (window b a p) w true) 0 && sameAnswer (decoded (coderOf f) (startsOf f p) w b) v
+test f (claimed.table b a p bytes) =
+    (eqb (tableRefusal f (window b a p) true) 0 && (eqb (length bytes) (tableSize (outputsOf f) (window b a p)) && allBelow (length bytes) (λ k. eqb (getD bytes k 0) (entryByte f p (size (window b a p)) b k))))
 test f (claimed.run s xs os e) =
     (eqb (runRefusal f s xs true) 0 && (sameList (outs (machineOf f) s xs) os && eqb (end (machineOf f) s xs) e))
 
 -- ---- from the test to the claim
 
 module _ (f : List ℕ) (z : fileRefusal f ≡ 0) where
-  -- a search with room for any verdict is not refused
+  -- a search with room for any verdict and a settle count within the limit is not refused
   searched :
-      (o : Order) (before : List ℕ) (r : SearchResult) (after : List ℕ) → wanted ≤ length before → SearchPromise o f before r after →
-      FoundVerdict (relationOf o) (settingOf f) r before after
+      (o : Order) (p : ℕ) (before : List ℕ) (r : SearchResult) (after : List ℕ) → p ≤ maxSettle → wanted ≤ length before →
+      SearchPromise o f p before r after → FoundVerdict o f p r before after
   unfolding searchRefusal
-  searched o before r after l p =
-      let e : searchRefusal f (leb wanted (length before)) ≡ 0 = rw (z, le-leb wanted (length before) l) in
-      rw e at p
+  searched o p before r after m l h =
+      let e : searchRefusal f p (leb wanted (length before)) ≡ 0 =
+      rw (z, le-leb p maxSettle m, le-leb wanted (length before) l) in
+      rw e at h
 
-  window-holds : (o : Order) (b a : ℕ) → LeastOf (relationOf o) (settingOf f) b a → Holds f (claimed.window o b a)
-  window-holds o b a least before r after l p = go (h .verdict) (h .is) (h .says)
+  window-holds :
+      (o : Order) (b a p : ℕ) → p ≤ maxSettle → LeastOf (relationOf o) (settingAfter f p) b a → Holds f (claimed.window o b a p)
+  window-holds o b a p m least before r after l g = go (h .verdict) (h .is) (h .says)
     where
-      h : FoundVerdict (relationOf o) (settingOf f) r before after
-      h = searched o before r after l p
+      h : FoundVerdict o f p r before after
+      h = searched o p before r after m l g
 
-      go :
-          (v : Verdict) → r ≡ Found v → Says (relationOf o) (settingOf f) v before after →
-          (r ≡ Found (Least (window b a))) × (after ≡ before)
+      go : (v : Verdict) → r ≡ Found v → SaysOf o f p v before after → (r ≡ Found (Least (window b a p))) × (after ≡ before)
       go (Least w) e s =
-          let u = least-unique (is-order o) (settingOf f) (w .before) (w .after) b a (s .least) least in
-          (e ∙ ap (λ (x : Window). Found (Least x)) (ap₂ window (u .0) (u .1)), s .stays)
+          let u = least-unique (is-order o) (settingAfter f p) (w .before) (w .after) b a (s .least) least in
+          let same : window (w .before) (w .after) (w .settle) ≡ window b a p = rw (u .0, u .1, s .settle) in
+          (e ∙ ap (λ (x : Window). Found (Least x)) same, s .stays)
       go (NoDecoder q) e s = absurd (s .none b a (least .works))
 
   no-decoder-holds :
       (s t : ℕ) (bytes : List ℕ) → First (settingOf f) (claimed.pair s t bytes) → length bytes ≡ 6 →
       checkRefusal f (claimed.pair s t bytes) true ≡ 0 → Holds f (claimed.no-decoder s t bytes)
   no-decoder-holds s t bytes first six e = (
-    (λ o before r after l p. let h = searched o before r after l p in go o r (h .verdict) (h .is) before after (h .says)),
+    (λ o p before r after m l g. let h = searched o p before r after m l g in go o p r (h .verdict) (h .is) before after (h .says)),
     λ r c.
         let g : CheckedRight f (claimed.pair s t bytes) r = rw e at c in
         checked-as f (claimed.pair s t bytes) g (judges-yes (first .valid)),
   )
     where
       go :
-          (o : Order) (r : SearchResult) (u : Verdict) → r ≡ Found u → (before after : List ℕ) →
-          Says (relationOf o) (settingOf f) u before after →
+          (o : Order) (p : ℕ) (r : SearchResult) (u : Verdict) → r ≡ Found u → (before after : List ℕ) →
+          SaysOf o f p u before after →
           (r ≡ Found (NoDecoder (loopedPair s t 1 0 0 1))) × (after ≡ withFront bytes before)
-      go o r (Least w) d before after h =
+      go o p r (Least w) d before after h =
           absurd
-          (excludes (settingOf f) (claimed.pair s t bytes) (first .valid) (reachable-closed (machineOf f)) (w .before) (w .after)
-          (h .least .works))
-      go o r (NoDecoder q) d before after h =
+          (excludes (settingAfter f p) (claimed.pair s t bytes) (valid-after (machineOf f) p (claimed.pair s t bytes) .0 (first .valid))
+          (after-closed (machineOf f) p) (w .before) (w .after) (h .least .works))
+      go o p r (NoDecoder q) d before after h =
           let k = first-unique (settingOf f) (pairOf q after) (claimed.pair s t bytes) (h .first) first in
           let n : letters (pairOf q after) ≡ 3 = cc in
           let m : 2 * letters (pairOf q after) ≡ length bytes = omega arith in
@@ -181,31 +187,31 @@ module _ (f : List ℕ) (z : fileRefusal f ≡ 0) where
       checked-as f (claimed.pair s t bytes) g (judges-not not-valid)
 
   answer-holds :
-      (b a : ℕ) (received : List ℕ) (v : Answer) → windowRefusal f (window b a) received true ≡ 0 →
-      decoded (coderOf f) (startsOf f) received b ≡ v → Holds f (claimed.answer b a received v)
-  answer-holds b a received v e q r p =
-      let h : AnsweredRight f (window b a) received r = rw e at p in
-      let inside = window-accepted f (window b a) received true e .long in
-      let right = file-right f z received b (omega arith) in
-      h .is ∙ ap (λ (x : Answer). Answered x) (right-unique (settingOf f) received b (h .answer) _ (h .right) right ∙ q)
+      (b a p : ℕ) (received : List ℕ) (v : Answer) → windowRefusal f (window b a p) received true ≡ 0 →
+      decoded (coderOf f) (startsOf f p) received b ≡ v → Holds f (claimed.answer b a p received v)
+  answer-holds b a p received v e q r g =
+      let h : AnsweredRight f (window b a p) received r = rw e at g in
+      let inside = window-accepted f (window b a p) received true e .long in
+      let right = file-right f z p received b (omega arith) in
+      h .is ∙ ap (λ (x : Answer). Answered x) (right-unique (settingAfter f p) received b (h .answer) _ (h .right) right ∙ q)
 
   table-holds :
-      (b a : ℕ) (bytes : List ℕ) → tableRefusal f (window b a) true ≡ 0 → length bytes ≡ tableSize (outputsOf f) (window b a) →
-      ((k : ℕ) → k < length bytes → getD bytes k 0 ≡ entryByte f (size (window b a)) b k) → Holds f (claimed.table b a bytes)
-  table-holds b a bytes e long each before r after l p =
-      let w = window b a in
+      (b a p : ℕ) (bytes : List ℕ) → tableRefusal f (window b a p) true ≡ 0 → length bytes ≡ tableSize (outputsOf f) (window b a p) →
+      ((k : ℕ) → k < length bytes → getD bytes k 0 ≡ entryByte f p (size (window b a p)) b k) → Holds f (claimed.table b a p bytes)
+  table-holds b a p bytes e long each before r after l g =
+      let w = window b a p in
       let n = tableSize (outputsOf f) w in
       let room : n ≤ length before = omega arith in
       let none : tableRefusalIn f w (length before) true ≡ 0 = rw (le-leb n (length before) room) e in
-      let written : Written (EntryOf f w) n before after = rw none at (p .bytes) in (
-        (rw none at (p .result)) ∙ ap (λ (m : ℕ). Done m) (sym long),
+      let written : Written (EntryOf f w) n before after = rw none at (g .bytes) in (
+        (rw none at (g .result)) ∙ ap (λ (m : ℕ). Done m) (sym long),
         rw long
-            (written-unique (λ k x y. right-byte-unique (settingOf f) (windowAt (outputsOf f) (size w) k) b) written
+            (written-unique (λ k x y. right-byte-unique (settingAfter f p) (windowAt (outputsOf f) (size w) k) b) written
             (written-bytes bytes long room (λ k m.
             let part = windowAt (outputsOf f) (size w) k in
             rw (each k (omega arith))
-            (right-byte (settingOf f) part b (decoded (coderOf f) (startsOf f) part b)
-            (file-right f z part b (omega (arith, length-window (outputsOf f) (size w) k))))))),
+            (right-byte (settingAfter f p) part b (decoded (coderOf f) (startsOf f p) part b)
+            (file-right f z p part b (omega (arith, length-window (outputsOf f) (size w) k))))))),
       )
 
   run-holds :
@@ -221,6 +227,10 @@ module _ (f : List ℕ) (z : fileRefusal f ≡ 0) where
   unfolding machineOf
   different e = different-test (machineOf f) e
 
+  -- the start states of settle count 0 are the reachable ones
+  reachable-starts : member.Holds (Reachable (machineOf f)) (startsOf f 0)
+  reachable-starts = holds-map (λ s. start-zero (machineOf f) s .0) (λ s. start-zero (machineOf f) s .1) (file-starts f z 0)
+
   claim-holds : (c : Claim) → test f c ≡ true → Holds f c
   unfolding test
   claim-holds (claimed.counts n i o) e =
@@ -230,30 +240,33 @@ module _ (f : List ℕ) (z : fileRefusal f ≡ 0) where
   claim-holds (claimed.written n i o entries) e =
       let t = both-true (eqb (entriesRefusal n i o entries) 0) (sameList (fileOf n i o entries) f) e in
       λ before r after l p. write-given n i o entries before f r after (eqb-true _ _ (t .0)) (same-list _ _ (t .1)) l p
-  claim-holds (claimed.window o b a) e = window-holds o b a (least-test (machineOf f) (startsOf f) o b a (total f (accepted f z)) (some-state f (accepted f z)) (starts-hold f z) e)
+  claim-holds (claimed.window o b a p) e =
+      let u = both-true (leb p maxSettle) (leastTest (machineOf f) (startsOf f p) o b a) e in
+      window-holds o b a p (leb-true _ _ (u .0))
+      (least-test (machineOf f) (startsOf f p) o b a p (total f (accepted f z)) (some-state f (accepted f z)) (file-starts f z p) (u .1))
   claim-holds (claimed.no-decoder s t bytes) e =
       let M = machineOf f in
-      let starts = startsOf f in
+      let starts = startsOf f 0 in
       let u = both-true (firstTest M starts s t bytes) (eqb (checkRefusal f (claimed.pair s t bytes) true) 0) e in
-      let h = starts-hold f z in
+      let h = reachable-starts in
       no-decoder-holds s t bytes (first-test M starts s t bytes h (u .0)) (first-size M starts s t bytes h (u .0)) (eqb-true _ _ (u .1))
   claim-holds (claimed.not-valid s t bytes) e =
       let p = claimed.pair s t bytes in
-      let v = validTest (machineOf f) (startsOf f) p in
+      let v = validTest (machineOf f) (startsOf f 0) p in
       let u = both-true (not v) (eqb (checkRefusal f p true) 0) e in
       not-valid-holds s t bytes (eqb-true _ _ (u .1))
-      (λ valid. true-false (test-valid (machineOf f) (startsOf f) p (starts-hold f z) valid) (not-true v (u .0)))
+      (λ valid. true-false (test-valid (machineOf f) (startsOf f 0) p reachable-starts valid) (not-true v (u .0)))
   claim-holds claimed.different-outputs e = different e
-  claim-holds (claimed.answer b a w v) e =
-      let d = decoded (coderOf f) (startsOf f) w b in
-      let t = both-true (eqb (windowRefusal f (window b a) w true) 0) (sameAnswer d v) e in
-      answer-holds b a w v (eqb-true _ _ (t .0)) (same-answer d v (t .1))
-  claim-holds (claimed.table b a bytes) e =
-      let same : ℕ → Bool = λ k. eqb (getD bytes k 0) (entryByte f (size (window b a)) b k) in
-      let long = eqb (length bytes) (tableSize (outputsOf f) (window b a)) in
-      let t = both-true (eqb (tableRefusal f (window b a) true) 0) (long && allBelow (length bytes) same) e in
+  claim-holds (claimed.answer b a p w v) e =
+      let d = decoded (coderOf f) (startsOf f p) w b in
+      let t = both-true (eqb (windowRefusal f (window b a p) w true) 0) (sameAnswer d v) e in
+      answer-holds b a p w v (eqb-true _ _ (t .0)) (same-answer d v (t .1))
+  claim-holds (claimed.table b a p bytes) e =
+      let same : ℕ → Bool = λ k. eqb (getD bytes k 0) (entryByte f p (size (window b a p)) b k) in
+      let long = eqb (length bytes) (tableSize (outputsOf f) (window b a p)) in
+      let t = both-true (eqb (tableRefusal f (window b a p) true) 0) (long && allBelow (length bytes) same) e in
       let u = both-true long (allBelow (length bytes) same) (t .1) in
-      table-holds b a bytes (eqb-true _ _ (t .0)) (eqb-true _ _ (u .0)) (λ k l. eqb-true _ _ (all-at (length bytes) same (u .1) k l))
+      table-holds b a p bytes (eqb-true _ _ (t .0)) (eqb-true _ _ (u .0)) (λ k l. eqb-true _ _ (all-at (length bytes) same (u .1) k l))
   claim-holds (claimed.run s xs os e′) e =
       let same = sameList (outs (machineOf f) s xs) os in
       let ends = eqb (end (machineOf f) s xs) e′ in
@@ -284,7 +297,7 @@ cases-hold (c ∷ cs) e =
     (z, claims-hold (c .file) z (c .claims) (u .0), cases-hold cs (u .1))
 
 passed : testCases starred ≡ true
-unfolding test entriesWord imageWord inStepsWord allStarts bigEndian checkRefusal windowRefusal tableRefusal runRefusal sidesRefusal leastTest laterOrFails worksTest agree allWords noEarlier firstTest validTest closesTest differentTest allBelow fileRefusal entriesRefusal inRange within entryInRange machineOf entryOf coderOf table tableAt decoded pass added add contribution gather unionOf answerOf leadingZeros hasKey isEntry over windowAt
+unfolding test entriesWord imageWord inStepsWord startsWord allStarts bigEndian checkRefusal windowRefusal tableRefusal runRefusal limitsRefusal leastTest laterOrFails worksTest agree allWords noEarlier firstTest validTest closesTest differentTest allBelow fileRefusal entriesRefusal inRange within entryInRange machineOf entryOf coderOf table tableAt decoded pass added add contribution gather unionOf answerOf leadingZeros hasKey isEntry over windowAt
 passed = refl
 
 -- every starred case: its file is accepted, and all that is claimed of it holds

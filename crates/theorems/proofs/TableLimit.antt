@@ -10,7 +10,7 @@ use lib.ListN.{length}
 use lib.Dec.{leb}
 use borrow.Author.Tests.{leb-false, lt-leb}
 use Rattle.coder.specs.Refusal.{refuse, answer}
-use Rattle.coder.specs.Limits.{maxSide}
+use Rattle.coder.specs.Limits.{maxSide, maxSettle}
 use Rattle.coder.specs.File.{outputsOf, fileRefusal}
 use Rattle.coder.proofs.Refusals.{refuse-either, first-either}
 use Rattle.coder.proofs.FileNumbers.{file-number}
@@ -20,7 +20,7 @@ use Rattle.values.specs.declared.CountResult.the-variants.{Refused, Done}
 use Rattle.table_size.specs.Size.{maxTable}
 use Rattle.table_size.specs.Cases.{tableAllowed}
 use Rattle.table_size.proofs.Exact.{cases-exact}
-use Rattle.decoder.specs.Refusal.{sidesRefusal, tableSize, tableRefusal}
+use Rattle.decoder.specs.Refusal.{limitsRefusal, tableSize, tableRefusal}
 use Rattle.decoder.specs.Table.{tableRefusalIn}
 use Rattle.decoder.proofs.Accepting.{table-by-cases}
 use Rattle.theorems.specs.TableLimit.{CasesExact, RefusedByCases, TableLimit}
@@ -35,30 +35,31 @@ exactly o w l h s =
 abbrev NotTen : ℕ → Type 0
 NotTen k = k ≡ 10 → ⊥
 
--- no number of the file and the sides is 10
-sides-not-ten : (f : List ℕ) (w : Window) → NotTen (sidesRefusal f w)
-unfolding sidesRefusal
-sides-not-ten f w =
+-- no number of the file and of the window's limits is 10
+limits-not-ten : (f : List ℕ) (w : Window) → NotTen (limitsRefusal f w)
+unfolding limitsRefusal
+limits-not-ten f w =
     first-either NotTen (fileRefusal f) _ (file-number NotTen (λ k l e. omega arith) f)
-    (refuse-either NotTen (not (leb (w .before) maxSide && leb (w .after) maxSide)) 8 0 (λ e. omega arith) (λ e. omega arith))
+    (refuse-either NotTen (not (leb (w .before) maxSide && leb (w .after) maxSide)) 8 _ (λ e. omega arith)
+    (refuse-either NotTen (not (leb (w .settle) maxSettle)) 14 0 (λ e. omega arith) (λ e. omega arith)))
 
 module _ (f : List ℕ) (w : Window) (fits : Bool) where
-  by-sides : (k : ℕ) → sidesRefusal f w ≡ suc k → tableRefusal f w fits ≡ suc k
+  by-limits : (k : ℕ) → limitsRefusal f w ≡ suc k → tableRefusal f w fits ≡ suc k
   unfolding tableRefusal
-  by-sides k z = rw z
+  by-limits k z = rw z
 
   ten : tableRefusal f w fits ≡ 10 ↔ RefusedByCases f w
-  ten = (λ e. from e (sidesRefusal f w) refl (tableAllowed (outputsOf f) (size w)) refl, λ r. table-by-cases f w false fits (r .sides) (r .not-allowed))
+  ten = (λ e. from e (limitsRefusal f w) refl (tableAllowed (outputsOf f) (size w)) refl, λ r. table-by-cases f w false fits (r .limits) (r .not-allowed))
     where
       eleven-or-none : NotTen (refuse (not fits) 11 0)
       eleven-or-none = refuse-either NotTen (not fits) 11 0 (λ e. omega arith) (λ e. omega arith)
 
       from :
-          tableRefusal f w fits ≡ 10 → (k : ℕ) → sidesRefusal f w ≡ k → (t : Bool) → tableAllowed (outputsOf f) (size w) ≡ t →
+          tableRefusal f w fits ≡ 10 → (k : ℕ) → limitsRefusal f w ≡ k → (t : Bool) → tableAllowed (outputsOf f) (size w) ≡ t →
           RefusedByCases f w
-      from e (suc k) z t q = absurd (sides-not-ten f w (z ∙ sym (by-sides k z) ∙ e))
+      from e (suc k) z t q = absurd (limits-not-ten f w (z ∙ sym (by-limits k z) ∙ e))
       from e zero z true q = absurd (eleven-or-none (sym (table-by-cases f w true fits z q) ∙ e))
-      from e zero z false q = record { sides = z; not-allowed = q }
+      from e zero z false q = record { limits = z; not-allowed = q }
 
 -- a result is the refusal 10 exactly if 10 is the number
 refused-ten : (k n : ℕ) → (answer k (λ j. Refused j) (Done n) ≡ Refused 10) ↔ (k ≡ 10)

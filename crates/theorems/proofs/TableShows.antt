@@ -15,13 +15,14 @@ use Rattle.mealy.proofs.Letters.{letter-at}
 use Rattle.mealy.proofs.Indices.{length-window, index-below, index-window}
 use Rattle.mealy.proofs.Answers.{length-outs, answer-unique}
 use Rattle.coder.specs.Refusal.{answer}
-use Rattle.coder.specs.File.{outputsOf, machineOf, settingOf}
+use Rattle.coder.specs.File.{outputsOf, machineOf}
 use Rattle.coder.proofs.Accepted.{Accepted, accepted}
 use Rattle.coder.proofs.Tables.{output-below}
 use Rattle.values.specs.Window.{size}
 use Rattle.values.specs.declared.Window.{Window}
 use Rattle.values.specs.declared.CountResult as count
 use Rattle.decoder.specs.Refusal.{tableSize}
+use Rattle.decoder.specs.Window.{windowSetting}
 use Rattle.decoder.specs.Table.{EntryOf, tableRefusalIn, TablePromise}
 use Rattle.decoder.proofs.Accepting.{table-accepted}
 use Rattle.theorems.proofs.Counted.{Counted, counted}
@@ -58,22 +59,22 @@ module _ (f : List ℕ) (w : Window) (before : List ℕ) (n : ℕ) (after : List
   t = counted _ _ _ before n after p
 
   file : Accepted f
-  file = accepted f (table-accepted f w _ (t .accepted) .sides .file)
+  file = accepted f (table-accepted f w _ (t .accepted) .limits .file)
 
   inputs-high : machineOf f .inputs ≤ 16
   unfolding machineOf
   inputs-high = file .entries .limits .inputs-high
 
-  none-several : Works (settingOf f) (w .before) (w .after) → (k : ℕ) → k < n → getD after k 0 ≢ 255
+  none-several : Works (windowSetting f w) (w .before) (w .after) → (k : ℕ) → k < n → getD after k 0 ≢ 255
   none-several works k l e =
       let part = windowAt (outputsOf f) (size w) k in
       let r = t .each k l in
-      never-two (settingOf f) (λ i j d. d) (w .before) (w .after) works part (length-window (outputsOf f) (size w) k)
-      (several-byte (settingOf f) part (w .before) inputs-high (r .answer) (r .right) (sym (r .byte) ∙ e))
+      never-two (windowSetting f w) (λ i j d. d) (w .before) (w .after) works part (length-window (outputsOf f) (size w) k)
+      (several-byte (windowSetting f w) part (w .before) inputs-high (r .answer) (r .right) (sym (r .byte) ∙ e))
 
-  shows-works : ((k : ℕ) → k < n → getD after k 0 ≢ 255) → Works (settingOf f) (w .before) (w .after)
+  shows-works : ((k : ℕ) → k < n → getD after k 0 ≢ 255) → Works (windowSetting f w) (w .before) (w .after)
   shows-works never s u xs ys start₁ start₂ equal differ =
-      let S = settingOf f in
+      let S = windowSetting f w in
       let b = w .before in
       let o = outs (machineOf f) s xs in
       let long : length o ≡ size w = length-outs (machineOf f) s xs ∙ equal .length₁ in
@@ -113,5 +114,5 @@ module _ (f : List ℕ) (w : Window) (before : List ℕ) (n : ℕ) (after : List
       let right : Answers S o b (r .answer) = subst (λ (x : List ℕ). Answers S x b (r .answer)) part (r .right) in
       never k l (r .byte ∙ ap byteOf (answer-unique S o b (r .answer) several right two))
 
-  pub table-shows : Works (settingOf f) (w .before) (w .after) ↔ ((k : ℕ) → k < n → getD after k 0 ≢ 255)
+  pub table-shows : Works (windowSetting f w) (w .before) (w .after) ↔ ((k : ℕ) → k < n → getD after k 0 ≢ 255)
   table-shows = (none-several, shows-works)

@@ -11,9 +11,9 @@ use lib.Seq.{take-all, length-take-le}
 use lib.Dec.{ltb, leb, eqb}
 use borrow.Author.Tests.{ltb-true, leb-true, eqb-true, eqb-false, lt-ltb, le-leb, eq-eqb, ne-eqb, not-true}
 use Rattle.mealy.specs.Machine.{Machine, outs, end, Letters, Total}
-use Rattle.mealy.specs.Reachable.{Reachable}
+use Rattle.mealy.specs.Reachable.{Reachable, StartAfter}
 use Rattle.mealy.specs.Word.{Holds}
-use Rattle.mealy.specs.Setting.{fromReachable}
+use Rattle.mealy.specs.Setting.{fromReachable, afterLetters}
 use Rattle.mealy.specs.Window.{Works}
 use Rattle.mealy.specs.Order.{Least}
 use Rattle.mealy.specs.Product.{Direction, back, forward, Settled, pairs}
@@ -21,8 +21,7 @@ use Rattle.mealy.specs.LoopedPair.{LoopedPair, Run, first, second, letterAt, le
 use Rattle.mealy.specs.First.{Lexicographic, key, First}
 use Rattle.mealy.proofs.PairBytes.{withBytes, valid-letters, valid-cut}
 use Rattle.mealy.proofs.Members.{holds-member}
-use Rattle.mealy.proofs.ReachableStates.{reachable-closed, reachable-bounded, dec-reachable}
-use Rattle.mealy.proofs.Plain.{works↔same-letter}
+use Rattle.mealy.proofs.StartStates.{after-closed, after-bounded, dec-start-after}
 use Rattle.mealy.proofs.Settling.{settled-by}
 use Rattle.mealy.proofs.LeastWindows.{least-within}
 use Rattle.coder.specs.Refusal.{allBelow, lettersBelow}
@@ -102,20 +101,20 @@ isStart starts s = eqb (starts / 2 ^ s % 2) 1
 unfoldable pub allStarts : ℕ → (ℕ → Bool) → Bool
 allStarts starts p = allBelow 16 (λ s. cond (isStart starts s) (p s) true)
 
-module _ {M : Machine} {starts : ℕ} (h : Holds (Reachable M) starts) where
-  start-test : (s : ℕ) → Reachable M s → isStart starts s ≡ true
+module _ {A : ℕ → Type 0} {starts : ℕ} (h : Holds A starts) where
+  start-test : (s : ℕ) → A s → isStart starts s ≡ true
   start-test s r = eq-eqb _ _ (h .has s r)
 
-  test-start : (s : ℕ) → isStart starts s ≡ true → Reachable M s
+  test-start : (s : ℕ) → isStart starts s ≡ true → A s
   test-start s e = holds-member h s (eqb-true _ _ e)
 
-  starts-at : (p : ℕ → Bool) → allStarts starts p ≡ true → (s : ℕ) → Reachable M s → p s ≡ true
+  starts-at : (p : ℕ → Bool) → allStarts starts p ≡ true → (s : ℕ) → A s → p s ≡ true
   unfolding allStarts
   starts-at p e s r =
       let x = all-at 16 (λ s. cond (isStart starts s) (p s) true) e s (h .below s r) in
       rw (start-test s r) at x
 
-  starts-false : (p : ℕ → Bool) → allStarts starts p ≡ false → (s : ℕ) × Reachable M s × (p s ≡ false)
+  starts-false : (p : ℕ → Bool) → allStarts starts p ≡ false → (s : ℕ) × A s × (p s ≡ false)
   unfolding allStarts
   starts-false p e =
       let x = all-false 16 (λ s. cond (isStart starts s) (p s) true) e in
@@ -134,39 +133,47 @@ module _ (M : Machine) (starts b a : ℕ) where
       allStarts starts (λ s. allStarts starts (λ t.
       allWords (M .inputs) (b + 1 + a) (λ xs. allWords (M .inputs) (b + 1 + a) (λ ys. agree s t xs ys))))
 
-  module _ (held : Holds (Reachable M) starts) where
-    pub works-test : worksTest ≡ true → Works (fromReachable M) b a
-    unfolding worksTest agree
-    works-test e = works↔same-letter M b a .1 (λ s t xs ys p q g h k l f.
-        let seconds : ℕ → ℕ → List ℕ → Bool = λ s t xs. allWords (M .inputs) (b + 1 + a) (λ ys. agree s t xs ys) in
-        let runs : ℕ → ℕ → Bool = λ s t. allWords (M .inputs) (b + 1 + a) (λ xs. seconds s t xs) in
-        let x = starts-at held (λ s. allStarts starts (λ t. runs s t)) e s p in
-        let y = starts-at held (λ t. runs s t) x t q in
-        let z = words-at (M .inputs) (b + 1 + a) (λ xs. seconds s t xs) y xs g k in
-        let w = words-at (M .inputs) (b + 1 + a) (λ ys. agree s t xs ys) z ys h l in
-        let same : sameList (outs M s xs) (outs M t ys) ≡ true = rw f (list-same (outs M t ys)) in
-        eqb-true _ _ (rw same at w))
+  abbrev seconds : ℕ → ℕ → List ℕ → Bool
+  seconds s t xs = allWords (M .inputs) (b + 1 + a) (λ ys. agree s t xs ys)
 
-    pub fails-test : worksTest ≡ false → Works (fromReachable M) b a → ⊥
+  abbrev runs : ℕ → ℕ → Bool
+  runs s t = allWords (M .inputs) (b + 1 + a) (λ xs. seconds s t xs)
+
+  module _ {p : ℕ} (held : Holds (StartAfter M p) starts) where
+    pub works-test : worksTest ≡ true → Works (afterLetters M p) b a
+    unfolding worksTest agree
+    works-test e s t xs ys g h w differ =
+        let x = starts-at held (λ s. allStarts starts (λ t. runs s t)) e s g in
+        let y = starts-at held (λ t. runs s t) x t h in
+        let z = words-at (M .inputs) (b + 1 + a) (λ xs. seconds s t xs) y xs (w .letters₁) (w .length₁) in
+        let v = words-at (M .inputs) (b + 1 + a) (λ ys. agree s t xs ys) z ys (w .letters₂) (w .length₂) in
+        let same : sameList (outs M s xs) (outs M t ys) ≡ true = rw (w .outputs) (list-same (outs M t ys)) in
+        differ (eqb-true _ _ (rw same at v))
+
+    pub fails-test : worksTest ≡ false → Works (afterLetters M p) b a → ⊥
     unfolding worksTest agree
     fails-test e f =
-        let seconds : ℕ → ℕ → List ℕ → Bool = λ s t xs. allWords (M .inputs) (b + 1 + a) (λ ys. agree s t xs ys) in
-        let runs : ℕ → ℕ → Bool = λ s t. allWords (M .inputs) (b + 1 + a) (λ xs. seconds s t xs) in
-        let p = starts-false held (λ s. allStarts starts (λ t. runs s t)) e in
-        let q = starts-false held (λ t. runs (p .0) t) (p .2) in
-        let x = words-false (M .inputs) (b + 1 + a) (λ xs. seconds (p .0) (q .0) xs) (q .2) in
-        let y = words-false (M .inputs) (b + 1 + a) (λ ys. agree (p .0) (q .0) (x .xs) ys) (x .fails) in
-        let d = differs (sameList (outs M (p .0) (x .xs)) (outs M (q .0) (y .xs))) (eqb (getD (x .xs) b 0) (getD (y .xs) b 0)) (y .fails) in
-        eqb-false _ _ (d .1)
-        (works↔same-letter M b a .0 f (p .0) (q .0) (x .xs) (y .xs) (p .1) (q .1) (x .below) (y .below) (x .long) (y .long)
-        (same-list _ _ (d .0)))
+        let u = starts-false held (λ s. allStarts starts (λ t. runs s t)) e in
+        let v = starts-false held (λ t. runs (u .0) t) (u .2) in
+        let x = words-false (M .inputs) (b + 1 + a) (λ xs. seconds (u .0) (v .0) xs) (v .2) in
+        let y = words-false (M .inputs) (b + 1 + a) (λ ys. agree (u .0) (v .0) (x .xs) ys) (x .fails) in
+        let d = differs (sameList (outs M (u .0) (x .xs)) (outs M (v .0) (y .xs))) (eqb (getD (x .xs) b 0) (getD (y .xs) b 0)) (y .fails) in
+        f (u .0) (v .0) (x .xs) (y .xs) (u .1) (v .1)
+        (record {
+          letters₁ = x .below;
+          letters₂ = y .below;
+          length₁ = x .long;
+          length₂ = y .long;
+          outputs = same-list _ _ (d .0);
+        })
+        (eqb-false _ _ (d .1))
 
 -- ---- the least window in an order: it works, and none that comes before it does
 
 module _ (M : Machine) (starts : ℕ) (o : Order) (b a : ℕ) where
   -- b a comes no later than the window b′ a′, or that does not work
   unfoldable pub laterOrFails : ℕ → ℕ → Bool
-  laterOrFails b′ a′ = cond (noLater o (window b a) (window b′ a′)) true (not (worksTest M starts b′ a′))
+  laterOrFails b′ a′ = cond (noLater o (window b a 0) (window b′ a′ 0)) true (not (worksTest M starts b′ a′))
 
   -- tried up to N (N + 1) / 2 letters a side, from the smallest number of letters before on
   unfoldable pub leastTest : Bool
@@ -174,28 +181,32 @@ module _ (M : Machine) (starts : ℕ) (o : Order) (b a : ℕ) where
       let n = pairs (M .states) in
       worksTest M starts b a && allBelow (n + 1) (λ k. allBelow (n + 1) (λ a′. laterOrFails (n - k) a′))
 
-  later-or-fails : Holds (Reachable M) starts → (b′ a′ : ℕ) → laterOrFails b′ a′ ≡ true → Works (fromReachable M) b′ a′ → relationOf o b a b′ a′
+  later-or-fails :
+      (p : ℕ) → Holds (StartAfter M p) starts → (b′ a′ : ℕ) → laterOrFails b′ a′ ≡ true → Works (afterLetters M p) b′ a′ →
+      relationOf o b a b′ a′
   unfolding laterOrFails
-  later-or-fails held b′ a′ e f = go (noLater o (window b a) (window b′ a′)) refl e
+  later-or-fails p held b′ a′ e f = go (noLater o (window b a 0) (window b′ a′ 0)) refl e
     where
       go :
-          (t : Bool) → noLater o (window b a) (window b′ a′) ≡ t → cond t true (not (worksTest M starts b′ a′)) ≡ true →
+          (t : Bool) → noLater o (window b a 0) (window b′ a′ 0) ≡ t → cond t true (not (worksTest M starts b′ a′)) ≡ true →
           relationOf o b a b′ a′
-      go true z h = no-later o (window b a) (window b′ a′) .0 z
+      go true z h = no-later o (window b a 0) (window b′ a′ 0) .0 z
       go false z h = absurd (fails-test M starts b′ a′ held (not-true _ h) f)
 
-  pub least-test : Total M → 0 < M .states → Holds (Reachable M) starts → leastTest ≡ true → Least (relationOf o) (fromReachable M) b a
+  pub least-test :
+      (p : ℕ) → Total M → 0 < M .states → Holds (StartAfter M p) starts → leastTest ≡ true → Least (relationOf o) (afterLetters M p) b a
   unfolding leastTest
-  least-test total some held e =
+  least-test p total some held e =
       let n = pairs (M .states) in
-      let S = fromReachable M in
-      let settled : (d : Direction) → Settled S d n = λ d. settled-by S (dec-reachable M total some) (reachable-bounded M total some) d n (omega arith) in
+      let S = afterLetters M p in
+      let settled : (d : Direction) → Settled S d n =
+      λ d. settled-by S (dec-start-after M total some p) (after-bounded M total some p) d n (omega arith) in
       let row : ℕ → Bool = λ k. allBelow (n + 1) (λ a′. laterOrFails (n - k) a′) in
       let z = both-true (worksTest M starts b a) (allBelow (n + 1) row) e in
-      least-within (is-order o) S (reachable-closed M) n (settled forward) n (settled back) b a (works-test M starts b a held (z .0)) (λ b′ a′ l m f.
+      least-within (is-order o) S (after-closed M p) n (settled forward) n (settled back) b a (works-test M starts b a held (z .0)) (λ b′ a′ l m f.
       let r = all-at (n + 1) row (z .1) (n - b′) (omega arith) in
       let same : n - (n - b′) ≡ b′ = omega arith in
-      later-or-fails held b′ a′ (rw same at (all-at (n + 1) (λ a′. laterOrFails (n - (n - b′)) a′) r a′ (omega arith))) f)
+      later-or-fails p held b′ a′ (rw same at (all-at (n + 1) (λ a′. laterOrFails (n - (n - b′)) a′) r a′ (omega arith))) f)
 
 -- ---- looped pairs
 

@@ -1,8 +1,9 @@
 -- The three demands, one record each, over the promises of the calls alone. A buyer begins here: `demand-1`, `demand-2`, `demand-3` and
 -- `from-c` of proofs/Demands.antt prove these records, and each call's contract is that it meets its promise for all arguments. That reader
--- and writer of coder files are inverses stands in Files.antt, that refusal 10 goes by cases on O in TableLimit.antt, and that spare states
--- do not count in SpareStates.antt. The runs that windows, answers and pairs go by start in reachable states (document 02, 5/13):
--- `settingOf`.
+-- and writer of coder files are inverses stands in Files.antt, that refusal 10 goes by cases on O in TableLimit.antt, that spare states do
+-- not count in SpareStates.antt, and what a settle count changes in SettleCounts.antt. The runs that pairs go by start in reachable states
+-- (document 02, 5/13): `settingOf`. Those of windows and answers start where as many letters as the settle count says lead from there
+-- (6/13): `settingAfter`, and of the decoder's calls `windowSetting`.
 use Prim.Native.Nat.{ℕ, _+_, _≤_, _<_}
 use mathlib.Core.Path.{_≡_}
 use mathlib.Core.Logic.{_↔_}
@@ -18,14 +19,14 @@ use Rattle.mealy.specs.LoopedPair as mealy
 use Rattle.mealy.specs.LoopedPair.{Valid, TurnedRuns}
 use Rattle.mealy.specs.First.{First}
 use Rattle.coder.specs.Refusal.{upon}
-use Rattle.coder.specs.File.{statesOf, inputsOf, outputsOf, entriesOf, fileOf, headerOf, EntriesPart, machineOf, settingOf}
+use Rattle.coder.specs.File.{statesOf, inputsOf, outputsOf, entriesOf, fileOf, headerOf, EntriesPart, machineOf, settingOf, settingAfter}
 use Rattle.coder.specs.declared.Header.{Header}
 use Rattle.coder.specs.declared.Header as header-result
 use Rattle.running.specs.Run.{RunPromise}
 use Rattle.running.specs.declared.RunResult.{RunResult}
 use Rattle.running.specs.declared.RunResult as run-result
 use Rattle.values.specs.Window.{size}
-use Rattle.values.specs.Order.{relationOf, defaultOrder}
+use Rattle.values.specs.Order.{defaultOrder}
 use Rattle.values.specs.Pair.{pairOf}
 use Rattle.values.specs.declared.Window.{Window}
 use Rattle.values.specs.declared.Order.{Order}
@@ -37,7 +38,7 @@ use Rattle.fitting.specs.Answer.{meaning}
 use Rattle.fitting.specs.declared.Answer.{Answer}
 use Rattle.decoder.specs.Written.{Written}
 use Rattle.decoder.specs.Refusal.{tableSize}
-use Rattle.decoder.specs.Window.{AnsweredRight, WindowPromise}
+use Rattle.decoder.specs.Window.{windowSetting, AnsweredRight, WindowPromise}
 use Rattle.decoder.specs.Places.{places, ByteAt, StringPromise}
 use Rattle.decoder.specs.Table.{EntryOf, TablePromise}
 use Rattle.decoder.specs.declared.WindowResult.{WindowResult}
@@ -88,16 +89,16 @@ pub record Demand1 : Type 0 where
       StringPromise f w received before r after →
       Judged (givenString f w received before []) (λ k. (r ≡ count-result.the-variants.Refused k) × (after ≡ before))
       ((r ≡ count-result.the-variants.Done (places (length received) w)) ×
-      Written (ByteAt (settingOf f) received w) (places (length received) w) before after)
+      Written (ByteAt f received w) (places (length received) w) before after)
   pub table :
       (f : List ℕ) (w : Window) (before : List ℕ) (r : CountResult) (after : List ℕ) → TablePromise f w before r after →
       Judged (givenTable f w before []) (λ k. (r ≡ count-result.the-variants.Refused k) × (after ≡ before))
       ((r ≡ count-result.the-variants.Done (tableSize (outputsOf f) w)) ×
       Written (EntryOf f w) (tableSize (outputsOf f) w) before after)
   pub search :
-      (o : Order) (f before : List ℕ) (r : SearchResult) (after : List ℕ) → SearchPromise o f before r after →
-      Judged (givenSearch f before []) (λ k. (r ≡ search-result.the-variants.Refused k) × (after ≡ before))
-      (FoundVerdict (relationOf o) (settingOf f) r before after)
+      (o : Order) (f : List ℕ) (p : ℕ) (before : List ℕ) (r : SearchResult) (after : List ℕ) → SearchPromise o f p before r after →
+      Judged (givenSearch f p before []) (λ k. (r ≡ search-result.the-variants.Refused k) × (after ≡ before))
+      (FoundVerdict o f p r before after)
   pub check :
       (f : List ℕ) (p : mealy.LoopedPair) (r : CheckResult) → CheckPromise f p r →
       Judged (givenCheck f p []) (λ k. r ≡ check-result.the-variants.Refused k) (CheckedRight f p r)
@@ -113,14 +114,14 @@ pub record Demand1 : Type 0 where
       Hosted (refusalOf (givenRun f s xs before (givenResult result))) r (BothStay before result after result′)
       (RunGiven f s xs before result after result′)
   pub search-from-C :
-      (f before result : List ℕ) (r : ℕ) (after result′ : List ℕ) → SearchHosted f before result r after result′ →
-      Hosted (refusalOf (givenSearch f before (givenResult result))) r (BothStay before result after result′)
-      (VerdictGiven (settingOf f) before result after result′)
+      (f : List ℕ) (p : ℕ) (before result : List ℕ) (r : ℕ) (after result′ : List ℕ) → SearchHosted f p before result r after result′ →
+      Hosted (refusalOf (givenSearch f p before (givenResult result))) r (BothStay before result after result′)
+      (VerdictGiven f p before result after result′)
   pub decode-from-C :
       (f : List ℕ) (w : Window) (received before result : List ℕ) (r : ℕ) (after result′ : List ℕ) →
       DecodeHosted f w received before result r after result′ →
       Hosted (refusalOf (givenString f w received before (givenResult result))) r (BothStay before result after result′)
-      (BytesGiven (places (length received) w) (ByteAt (settingOf f) received w) before result after result′)
+      (BytesGiven (places (length received) w) (ByteAt f received w) before result after result′)
   pub table-from-C :
       (f : List ℕ) (w : Window) (before result : List ℕ) (r : ℕ) (after result′ : List ℕ) →
       TableHosted f w before result r after result′ →
@@ -166,18 +167,19 @@ pub record Demand2 : Type 0 where
   -- second sentence: of one window, of each place of a string, of each index of a table
   pub window :
       (f : List ℕ) (w : Window) (received : List ℕ) (v : Answer) →
-      WindowPromise f w received (window-result.the-variants.Answered v) → Said (settingOf f) received (w .before) (meaning v)
+      WindowPromise f w received (window-result.the-variants.Answered v) → Said (windowSetting f w) received (w .before) (meaning v)
   pub string :
       (f : List ℕ) (w : Window) (received before : List ℕ) (n : ℕ) (after : List ℕ) →
       StringPromise f w received before (count-result.the-variants.Done n) after →
       (n ≡ places (length received) w) ×
-      ((k : ℕ) → k < n → SaidByte (settingOf f) (take (size w) (drop k received)) (w .before) (getD after k 0))
+      ((k : ℕ) → k < n → SaidByte (windowSetting f w) (take (size w) (drop k received)) (w .before) (getD after k 0))
   pub table :
       (f : List ℕ) (w : Window) (before : List ℕ) (n : ℕ) (after : List ℕ) →
       TablePromise f w before (count-result.the-variants.Done n) after →
       (n ≡ tableSize (outputsOf f) w) ×
-      ((k : ℕ) → k < n → SaidByte (settingOf f) (windowAt (outputsOf f) (size w) k) (w .before) (getD after k 0))
-  -- third sentence, for runs from a reachable state (document 02, 5/13)
+      ((k : ℕ) → k < n → SaidByte (windowSetting f w) (windowAt (outputsOf f) (size w) k) (w .before) (getD after k 0))
+  -- third sentence, for runs from a reachable state (document 02, 5/13), at the places that have the letters of the settle count ahead of the
+  -- window (6/13)
   pub back : LettersComeBack
   pub back-from-C : LettersComeBackFromC
 
@@ -190,28 +192,29 @@ abbrev pub NoLater : Order → Window → ℕ → ℕ → Type 0
 NoLater FewestLetters w b a = (size w ≤ b + 1 + a) × (size w ≡ b + 1 + a → w .after ≤ a)
 NoLater LeastLookahead w b a = (w .after ≤ a) × (w .after ≡ a → w .before ≤ b)
 
--- What is demanded of the verdict of a search in the order o on a file, the letters of a looped pair lying in the buffer.
-pub record Demanded (o : Order) (f : List ℕ) (v : Verdict) (buffer : List ℕ) : Type 0 where
+-- What is demanded of the verdict of a search in the order o with settle count p on a file, the letters of a looped pair lying in the buffer.
+pub record Demanded (o : Order) (f : List ℕ) (p : ℕ) (v : Verdict) (buffer : List ℕ) : Type 0 where
   -- first sentence
-  pub exactly : IsNoDecoder v ↔ ((b a : ℕ) → Works (settingOf f) b a → ⊥)
+  pub exactly : IsNoDecoder v ↔ ((b a : ℕ) → Works (settingAfter f p) b a → ⊥)
   -- second sentence: the pair is valid, and its two runs are as demanded for every k and every m
-  pub valid : (p : LoopedPair) → v ≡ NoDecoder p → Valid (settingOf f) (pairOf p buffer)
-  pub turned : (p : LoopedPair) → v ≡ NoDecoder p → (k m : ℕ) → TurnedRuns (settingOf f) (pairOf p buffer) k m
+  pub valid : (q : LoopedPair) → v ≡ NoDecoder q → Valid (settingOf f) (pairOf q buffer)
+  pub turned : (q : LoopedPair) → v ≡ NoDecoder q → (k m : ℕ) → TurnedRuns (settingOf f) (pairOf q buffer) k m
   -- which pair, as document 02, 2/13, settles it: the first of all that are valid, whatever their lengths
-  pub first : (p : LoopedPair) → v ≡ NoDecoder p → First (settingOf f) (pairOf p buffer)
-  -- third sentence: the window works, and comes no later than any other that works
-  pub works : (w : Window) → v ≡ Least w → Works (settingOf f) (w .before) (w .after)
-  pub no-later : (w : Window) → v ≡ Least w → (b a : ℕ) → Works (settingOf f) b a → NoLater o w b a
+  pub first : (q : LoopedPair) → v ≡ NoDecoder q → First (settingOf f) (pairOf q buffer)
+  -- third sentence: the window works, and comes no later than any other that works; both have the settle count of the search (6/13)
+  pub settle : (w : Window) → v ≡ Least w → w .settle ≡ p
+  pub works : (w : Window) → v ≡ Least w → Works (settingAfter f p) (w .before) (w .after)
+  pub no-later : (w : Window) → v ≡ Least w → (b a : ℕ) → Works (settingAfter f p) b a → NoLater o w b a
 
 pub record Demand3 : Type 0 where
   -- the search in a named order; the search that names none is the one in the default order
   pub search :
-      (o : Order) (f before : List ℕ) (v : Verdict) (after : List ℕ) →
-      SearchPromise o f before (search-result.the-variants.Found v) after → Demanded o f v after
+      (o : Order) (f : List ℕ) (p : ℕ) (before : List ℕ) (v : Verdict) (after : List ℕ) →
+      SearchPromise o f p before (search-result.the-variants.Found v) after → Demanded o f p v after
   -- a search from C that returns 0 has such a verdict, in the default order, in the fields of its result
   pub search-from-C :
-      (f before result after result′ : List ℕ) → SearchHosted f before result 0 after result′ →
-      (v : Verdict) × (result′ ≡ withFields result (verdictFields v)) × Demanded defaultOrder f v after
+      (f : List ℕ) (p : ℕ) (before result after result′ : List ℕ) → SearchHosted f p before result 0 after result′ →
+      (v : Verdict) × (result′ ≡ withFields result (verdictFields v)) × Demanded defaultOrder f p v after
 
 -- ---- the calls from C
 
@@ -223,9 +226,9 @@ pub record FromC : Type 0 where
       RunHosted f s xs before result r after result′ →
       Handed (λ own. RunPromise f s xs before own after) laidRun result r result′
   pub search :
-      (f before result : List ℕ) (r : ℕ) (after result′ : List ℕ) → resultBytes ≤ length result →
-      SearchHosted f before result r after result′ →
-      Handed (λ own. SearchPromise defaultOrder f before own after) laidSearch result r result′
+      (f : List ℕ) (p : ℕ) (before result : List ℕ) (r : ℕ) (after result′ : List ℕ) → resultBytes ≤ length result →
+      SearchHosted f p before result r after result′ →
+      Handed (λ own. SearchPromise defaultOrder f p before own after) laidSearch result r result′
   pub decode :
       (f : List ℕ) (w : Window) (received before result : List ℕ) (r : ℕ) (after result′ : List ℕ) → resultBytes ≤ length result →
       DecodeHosted f w received before result r after result′ →

@@ -61,7 +61,7 @@ pub record Handed {R : Type 0} (Promise : R → Type 0) (laid : R → Laid) (res
 
 -- A search from C that returned 0: its verdict is one that the library's own search in the default order promises, and lies in the
 -- fields.
-pub record FoundFromC (f before result after result′ : List ℕ) : Type 0 where
+pub record FoundFromC (f : List ℕ) (p : ℕ) (before result after result′ : List ℕ) : Type 0 where
   pub verdict : Verdict
-  pub promised : SearchPromise defaultOrder f before (search.the-variants.Found verdict) after
+  pub promised : SearchPromise defaultOrder f p before (search.the-variants.Found verdict) after
   pub fields : result′ ≡ withFields result (verdictFields verdict)

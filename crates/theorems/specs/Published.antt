@@ -1,5 +1,5 @@
 -- The published list of refusals, once for all calls: its numbers in checking order and when each applies (document 01, "Numbers of
--- refusal, in checking order"; document 02, 3/13, for the writer); and what each call is given.
+-- refusal, in checking order"; document 02, 3/13, for the writer, and 6/13 for number 14); and what each call is given.
 use Prim.Native.Nat.{ℕ, _+_, _-_, _*_}
 use mathlib.Core.Bool.{Bool, true, not, _&&_}
 use mathlib.Core.List.{List, [], _∷_, _++_}
@@ -7,7 +7,7 @@ use lib.ListN.{length}
 use lib.Dec.{ltb, leb, eqb}
 use Rattle.mealy.specs.LoopedPair.{LoopedPair, letters}
 use Rattle.coder.specs.Refusal.{refuse, allBelow, lettersBelow}
-use Rattle.coder.specs.Limits.{maxSide}
+use Rattle.coder.specs.Limits.{maxSide, maxSettle}
 use Rattle.coder.specs.File.{versionOf, countField, statesOf, inputsOf, outputsOf, entriesOf, fileOf, inRange, entryInRange}
 use Rattle.values.specs.Window.{size}
 use Rattle.values.specs.declared.Window.{Window}
@@ -46,6 +46,8 @@ pub record Given : Type 0 where
   pub starts : List ℕ
   -- sides of a window
   pub sides : List ℕ
+  -- settle counts
+  pub settles : List ℕ
   -- letters of a single window, bytes of a looped pair
   pub counted : List Bytes
   -- windows whose table is to be filled
@@ -57,9 +59,9 @@ pub record Given : Type 0 where
   -- received letters
   pub received : List ℕ
 
-abbrev pub sidesWithin : List ℕ → Bool
-sidesWithin [] = true
-sidesWithin (x ∷ xs) = leb x maxSide && sidesWithin xs
+abbrev pub allWithin : ℕ → List ℕ → Bool
+allWithin most [] = true
+allWithin most (x ∷ xs) = leb x most && allWithin most xs
 
 abbrev pub lengthsRight : List Bytes → Bool
 lengthsRight [] = true
@@ -102,7 +104,8 @@ published g =
     let c = g .coder in
     coderRules c ++
     (record { number = 7; applies = not (lettersBelow (statesGiven c) (g .starts)) } ∷
-    record { number = 8; applies = not (sidesWithin (g .sides)) } ∷
+    record { number = 8; applies = not (allWithin maxSide (g .sides)) } ∷
+    record { number = 14; applies = not (allWithin maxSettle (g .settles)) } ∷
     record { number = 9; applies = not (lengthsRight (g .counted)) } ∷
     record { number = 10; applies = not (tablesWithin (outputsGiven c) (g .tables)) } ∷
     record { number = 11; applies = not (longEnough (g .buffers)) } ∷
@@ -123,7 +126,7 @@ refusalOf g = firstNumber (published g)
 -- the file alone
 abbrev pub givenFile : List ℕ → Given
 givenFile f =
-    record { coder = file f; starts = []; sides = []; counted = []; tables = []; buffers = []; inputs = []; received = [] }
+    record { coder = file f; starts = []; sides = []; settles = []; counted = []; tables = []; buffers = []; inputs = []; received = [] }
 
 -- the coder run: one output letter for each input letter
 abbrev pub givenRun : List ℕ → ℕ → List ℕ → List ℕ → List Bytes → Given
@@ -132,6 +135,7 @@ givenRun f s xs before more =
       coder = file f;
       starts = s ∷ [];
       sides = [];
+      settles = [];
       counted = [];
       tables = [];
       buffers = record { has = length before; wants = length xs } ∷ more;
@@ -139,13 +143,14 @@ givenRun f s xs before more =
       received = [];
     }
 
--- the window search: a buffer for a looped pair's letters, whatever the verdict
-abbrev pub givenSearch : List ℕ → List ℕ → List Bytes → Given
-givenSearch f before more =
+-- the window search: a settle count, and a buffer for a looped pair's letters, whatever the verdict
+abbrev pub givenSearch : List ℕ → ℕ → List ℕ → List Bytes → Given
+givenSearch f p before more =
     record {
       coder = file f;
       starts = [];
       sides = [];
+      settles = p ∷ [];
       counted = [];
       tables = [];
       buffers = record { has = length before; wants = wanted } ∷ more;
@@ -160,6 +165,7 @@ givenCheck f p more =
       coder = file f;
       starts = p .s ∷ p .t ∷ [];
       sides = [];
+      settles = [];
       counted = record { has = length (p .bytes); wants = 2 * letters p } ∷ [];
       tables = [];
       buffers = more;
@@ -174,6 +180,7 @@ givenWindow f w received more =
       coder = file f;
       starts = [];
       sides = w .before ∷ w .after ∷ [];
+      settles = w .settle ∷ [];
       counted = record { has = length received; wants = size w } ∷ [];
       tables = [];
       buffers = more;
@@ -188,6 +195,7 @@ givenString f w received before more =
       coder = file f;
       starts = [];
       sides = w .before ∷ w .after ∷ [];
+      settles = w .settle ∷ [];
       counted = [];
       tables = [];
       buffers = record { has = length before; wants = places (length received) w } ∷ more;
@@ -202,6 +210,7 @@ givenTable f w before more =
       coder = file f;
       starts = [];
       sides = w .before ∷ w .after ∷ [];
+      settles = w .settle ∷ [];
       counted = [];
       tables = w ∷ [];
       buffers = record { has = length before; wants = tableSize (outputsOf f) w } ∷ more;
@@ -216,6 +225,7 @@ givenWrite n i o entries before more =
       coder = parts n i o entries;
       starts = [];
       sides = [];
+      settles = [];
       counted = [];
       tables = [];
       buffers = record { has = length before; wants = length (fileOf n i o entries) } ∷ more;

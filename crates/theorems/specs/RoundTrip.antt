@@ -28,9 +28,10 @@ pub record Coded (f : List ℕ) (s : ℕ) (xs : List ℕ) : Type 0 where
   pub start : Reachable (machineOf f) s
   pub letters : Letters (inputsOf f) xs
 
--- The decoded bytes are the input letters with a full window, each at its place.
+-- The decoded bytes are the input letters, each at its place: those with a full window and as many letters ahead of it as the settle count
+-- says (document 02, 6/13, the sentence on strings).
 abbrev pub Back : List ℕ → Window → List ℕ → Type 0
-Back xs w decoded = (k : ℕ) → k < places (length xs) w → getD decoded k 0 ≡ getD xs (k + w .before) 0
+Back xs w decoded = (k : ℕ) → w .settle ≤ k → k < places (length xs) w → getD decoded k 0 ≡ getD xs (k + w .before) 0
 
 -- What the three calls give, w being the window that the search reports: neither run nor decoder is refused, and the letters are
 -- back.
@@ -39,13 +40,13 @@ pub record RoundTrip (f : List ℕ) (s : ℕ) (xs : List ℕ) (w : Window) (r₁
   pub counted : r₃ ≡ Done (places (length xs) w)
   pub back : Back xs w decoded
 
--- For each outcome that the three calls promise, with room in the lent buffers: the run writes to after₁, the search, in whatever order,
--- reports w, and the decoder, given w and the letters that the run wrote, writes to after₃.
+-- For each outcome that the three calls promise, with room in the lent buffers: the run writes to after₁, the search, in whatever order and
+-- with whatever settle count, reports w, and the decoder, given w and the letters that the run wrote, writes to after₃.
 abbrev pub LettersComeBack : Type 0
 LettersComeBack =
     (f : List ℕ) (s : ℕ) (xs : List ℕ) → Coded f s xs →
     (before₁ : List ℕ) (r₁ : RunResult) (after₁ : List ℕ) → length xs ≤ length before₁ → RunPromise f s xs before₁ r₁ after₁ →
-    (o : Order) (before₂ : List ℕ) (w : Window) (after₂ : List ℕ) → SearchPromise o f before₂ (Found (Least w)) after₂ →
+    (o : Order) (p : ℕ) (before₂ : List ℕ) (w : Window) (after₂ : List ℕ) → SearchPromise o f p before₂ (Found (Least w)) after₂ →
     (before₃ : List ℕ) (r₃ : CountResult) (after₃ : List ℕ) → places (length xs) w ≤ length before₃ →
     StringPromise f w (take (length xs) after₁) before₃ r₃ after₃ →
     RoundTrip f s xs w r₁ r₃ after₃
@@ -61,9 +62,9 @@ pub record HostRoundTrip (xs : List ℕ) (w : Window) (r₁ : ℕ) (result₁ : 
   pub counted : fieldAt result₃ 0 ≡ places (length xs) w
   pub back : Back xs w decoded
 
--- the window that a host reads from the result of a search
-abbrev pub windowRead : List ℕ → Window
-windowRead result = window (fieldAt result 1) (fieldAt result 2)
+-- the window that a host reads from the result of a search with its settle count p
+abbrev pub windowRead : List ℕ → ℕ → Window
+windowRead result p = window (fieldAt result 1) (fieldAt result 2) p
 
 -- a number that a field holds
 abbrev pub FieldHolds : ℕ → Type 0
@@ -76,8 +77,8 @@ LettersComeBackFromC =
     (f : List ℕ) (s : ℕ) (xs : List ℕ) → Coded f s xs → FieldHolds (length xs) →
     (before₁ result₁ : List ℕ) (r₁ : ℕ) (after₁ result₁′ : List ℕ) → length xs ≤ length before₁ → resultBytes ≤ length result₁ →
     RunHosted f s xs before₁ result₁ r₁ after₁ result₁′ →
-    (before₂ result₂ after₂ result₂′ : List ℕ) → SearchHosted f before₂ result₂ 0 after₂ result₂′ → fieldAt result₂′ 0 ≡ 0 →
+    (p : ℕ) (before₂ result₂ after₂ result₂′ : List ℕ) → SearchHosted f p before₂ result₂ 0 after₂ result₂′ → fieldAt result₂′ 0 ≡ 0 →
     (before₃ result₃ : List ℕ) (r₃ : ℕ) (after₃ result₃′ : List ℕ) →
-    places (length xs) (windowRead result₂′) ≤ length before₃ → resultBytes ≤ length result₃ →
-    DecodeHosted f (windowRead result₂′) (take (fieldAt result₁′ 0) after₁) before₃ result₃ r₃ after₃ result₃′ →
-    HostRoundTrip xs (windowRead result₂′) r₁ result₁′ r₃ result₃′ after₃
+    places (length xs) (windowRead result₂′ p) ≤ length before₃ → resultBytes ≤ length result₃ →
+    DecodeHosted f (windowRead result₂′ p) (take (fieldAt result₁′ 0) after₁) before₃ result₃ r₃ after₃ result₃′ →
+    HostRoundTrip xs (windowRead result₂′ p) r₁ result₁′ r₃ result₃′ after₃

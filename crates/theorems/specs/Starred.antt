@@ -1,6 +1,6 @@
 -- The starred cases of document 01 ("Example coders"): one table of coder files and what is claimed of each; the windows in both orders,
--- with those of the coders G and H that document 02, 1/13 and 5/13, name, and the first looped pairs, with the one of coder C that 2/13
--- names. A claim on a call says that every outcome that the call promises on this file is the one named.
+-- with those of the coders G and H that document 02, 1/13, 5/13 and 6/13, name, and the first looped pairs, with the one of coder C that
+-- 2/13 names. A claim on a call says that every outcome that the call promises on this file is the one named.
 use Prim.Native.Nat.{ℕ, _≤_, _<_}
 use mathlib.Core.Path.{_≡_}
 use mathlib.Core.Logic.{_≢_}
@@ -8,6 +8,7 @@ use mathlib.Core.Bool.{true, false}
 use mathlib.Core.List.{List, [], _∷_, _++_}
 use lib.ListN.{length, drop}
 use Rattle.mealy.specs.LoopedPair as mealy
+use Rattle.coder.specs.Limits.{maxSettle}
 use Rattle.coder.specs.File.{fileRefusal, headerOf, statesOf, inputsOf, machineOf}
 use Rattle.coder.specs.declared.Header.{Header}
 use Rattle.coder.specs.declared.Header.the-variants.{Counts}
@@ -42,9 +43,9 @@ pub data Claim : Type 0 where
   counts : ℕ → ℕ → ℕ → Claim
   -- the writer, given these counts and entries, writes the file
   written : ℕ → ℕ → ℕ → List ℕ → Claim
-  -- the search in this order reports this window
-  window : Order → ℕ → ℕ → Claim
-  -- the search in any order says "no decoder" with the looped pair of three letters that has these start states and bytes, and the checker
+  -- the search in this order reports this window: sides and settle count
+  window : Order → ℕ → ℕ → ℕ → Claim
+  -- the search in any order and with any settle count says "no decoder" with the looped pair of three letters that has these start states and bytes, and the checker
   -- says yes to it
   no-decoder : ℕ → ℕ → List ℕ → Claim
   -- the checker says no to the looped pair of three letters that has these start states and bytes
@@ -52,9 +53,9 @@ pub data Claim : Type 0 where
   -- from equal states different letters give different outputs
   different-outputs : Claim
   -- the answer for the letters of a window
-  answer : ℕ → ℕ → List ℕ → Answer → Claim
+  answer : ℕ → ℕ → ℕ → List ℕ → Answer → Claim
   -- the decoder table of a window
-  table : ℕ → ℕ → List ℕ → Claim
+  table : ℕ → ℕ → ℕ → List ℕ → Claim
   -- a run: start state, input letters, output letters, end state
   run : ℕ → List ℕ → List ℕ → ℕ → Claim
 
@@ -68,20 +69,21 @@ Holds f (counts n i o) = (r : Header) → r ≡ headerOf f → r ≡ Counts n i 
 Holds f (written n i o entries) =
     (before : List ℕ) (r : CountResult) (after : List ℕ) → length f ≤ length before → WritePromise n i o entries before r after →
     WroteFile f before r after
-Holds f (window o b a) =
-    (before : List ℕ) (r : SearchResult) (after : List ℕ) → wanted ≤ length before → SearchPromise o f before r after →
-    (r ≡ Found (Least (values.window b a))) × (after ≡ before)
+Holds f (window o b a p) =
+    (before : List ℕ) (r : SearchResult) (after : List ℕ) → wanted ≤ length before → SearchPromise o f p before r after →
+    (r ≡ Found (Least (values.window b a p))) × (after ≡ before)
 Holds f (no-decoder s t bytes) =
-    ((o : Order) (before : List ℕ) (r : SearchResult) (after : List ℕ) → wanted ≤ length before → SearchPromise o f before r after →
+    ((o : Order) (p : ℕ) (before : List ℕ) (r : SearchResult) (after : List ℕ) → p ≤ maxSettle → wanted ≤ length before →
+    SearchPromise o f p before r after →
     (r ≡ Found (NoDecoder (loopedPair s t 1 0 0 1))) × (after ≡ withFront bytes before)) ×
     ((r : CheckResult) → CheckPromise f (pair s t bytes) r → r ≡ Checked true)
 Holds f (not-valid s t bytes) = (r : CheckResult) → CheckPromise f (pair s t bytes) r → r ≡ Checked false
 Holds f different-outputs =
     (s i j : ℕ) → s < statesOf f → i < inputsOf f → j < inputsOf f → i ≢ j → machineOf f .out s i ≢ machineOf f .out s j
-Holds f (answer b a received v) = (r : WindowResult) → WindowPromise f (values.window b a) received r → r ≡ Answered v
-Holds f (table b a bytes) =
+Holds f (answer b a p received v) = (r : WindowResult) → WindowPromise f (values.window b a p) received r → r ≡ Answered v
+Holds f (table b a p bytes) =
     (before : List ℕ) (r : CountResult) (after : List ℕ) → length bytes ≤ length before →
-    TablePromise f (values.window b a) before r after → (r ≡ Done (length bytes)) × (after ≡ withFront bytes before)
+    TablePromise f (values.window b a p) before r after → (r ≡ Done (length bytes)) × (after ≡ withFront bytes before)
 Holds f (run s xs os e) =
     (before : List ℕ) (r : RunResult) (after : List ℕ) → length xs ≤ length before → RunPromise f s xs before r after →
     (r ≡ run-result.the-variants.Done (length xs) e) × (after ≡ os ++ drop (length xs) before)
@@ -95,16 +97,16 @@ starred =
     -- A, running parity
     record {
       file = 1 ∷ 0 ∷ 11 ∷ 2 ∷ 2 ∷ 2 ∷ 0 ∷ 0 ∷ 1 ∷ 1 ∷ 1 ∷ 1 ∷ 0 ∷ 0 ∷ [];
-      claims = counts 2 2 2 ∷ written 2 2 2 (0 ∷ 0 ∷ 1 ∷ 1 ∷ 1 ∷ 1 ∷ 0 ∷ 0 ∷ []) ∷ window defaultOrder 1 0 ∷ window FewestLetters 1 0 ∷ table 1 0 (0 ∷ 1 ∷ 1 ∷ 0 ∷ []) ∷ run 0 (1 ∷ 1 ∷ 0 ∷ []) (1 ∷ 0 ∷ 0 ∷ []) 0 ∷ [];
+      claims = counts 2 2 2 ∷ written 2 2 2 (0 ∷ 0 ∷ 1 ∷ 1 ∷ 1 ∷ 1 ∷ 0 ∷ 0 ∷ []) ∷ window defaultOrder 1 0 0 ∷ window FewestLetters 1 0 0 ∷ table 1 0 0 (0 ∷ 1 ∷ 1 ∷ 0 ∷ []) ∷ run 0 (1 ∷ 1 ∷ 0 ∷ []) (1 ∷ 0 ∷ 0 ∷ []) 0 ∷ [];
     } ∷
     -- B, one state
-    record { file = 1 ∷ 0 ∷ 7 ∷ 1 ∷ 2 ∷ 2 ∷ 0 ∷ 0 ∷ 0 ∷ 1 ∷ []; claims = window defaultOrder 0 0 ∷ window FewestLetters 0 0 ∷ [] } ∷
+    record { file = 1 ∷ 0 ∷ 7 ∷ 1 ∷ 2 ∷ 2 ∷ 0 ∷ 0 ∷ 0 ∷ 1 ∷ []; claims = window defaultOrder 0 0 0 ∷ window FewestLetters 0 0 0 ∷ [] } ∷
     -- C, one state, one output letter
     record { file = 1 ∷ 0 ∷ 7 ∷ 1 ∷ 2 ∷ 1 ∷ 0 ∷ 0 ∷ 0 ∷ 0 ∷ []; claims = no-decoder 0 0 (0 ∷ 0 ∷ 0 ∷ 1 ∷ 0 ∷ 0 ∷ []) ∷ [] } ∷
     -- D, delay
     record {
       file = 1 ∷ 0 ∷ 11 ∷ 2 ∷ 2 ∷ 2 ∷ 0 ∷ 0 ∷ 1 ∷ 0 ∷ 0 ∷ 1 ∷ 1 ∷ 1 ∷ [];
-      claims = window defaultOrder 0 1 ∷ window FewestLetters 0 1 ∷ table 0 1 (0 ∷ 1 ∷ 0 ∷ 1 ∷ []) ∷ [];
+      claims = window defaultOrder 0 1 0 ∷ window FewestLetters 0 1 0 ∷ table 0 1 0 (0 ∷ 1 ∷ 0 ∷ 1 ∷ []) ∷ [];
     } ∷
     -- E, change detector
     record {
@@ -114,12 +116,12 @@ starred =
     -- G
     record {
       file = 1 ∷ 0 ∷ 19 ∷ 4 ∷ 2 ∷ 6 ∷ 1 ∷ 4 ∷ 1 ∷ 5 ∷ 2 ∷ 0 ∷ 3 ∷ 0 ∷ 2 ∷ 0 ∷ 2 ∷ 1 ∷ 3 ∷ 2 ∷ 3 ∷ 3 ∷ [];
-      claims = window defaultOrder 2 0 ∷ window FewestLetters 0 1 ∷ answer 0 1 (0 ∷ 0 ∷ []) (Letter 0) ∷ answer 0 1 (0 ∷ 2 ∷ []) (Letter 1) ∷ answer 0 1 (1 ∷ 2 ∷ []) None ∷ answer 0 0 (0 ∷ []) Several ∷ [];
+      claims = window defaultOrder 2 0 0 ∷ window FewestLetters 0 1 0 ∷ answer 0 1 0 (0 ∷ 0 ∷ []) (Letter 0) ∷ answer 0 1 0 (0 ∷ 2 ∷ []) (Letter 1) ∷ answer 0 1 0 (1 ∷ 2 ∷ []) None ∷ answer 0 0 0 (0 ∷ []) Several ∷ window defaultOrder 1 0 1 ∷ window FewestLetters 1 0 1 ∷ window defaultOrder 0 0 2 ∷ window FewestLetters 0 0 2 ∷ window defaultOrder 0 0 64 ∷ answer 0 0 2 (0 ∷ []) (Letter 0) ∷ table 0 0 2 (0 ∷ 1 ∷ 0 ∷ 1 ∷ 254 ∷ 254 ∷ []) ∷ [];
     } ∷
     -- H, with a spare state
     record {
       file = 1 ∷ 0 ∷ 11 ∷ 2 ∷ 2 ∷ 2 ∷ 0 ∷ 0 ∷ 0 ∷ 1 ∷ 1 ∷ 0 ∷ 1 ∷ 0 ∷ [];
-      claims = window defaultOrder 0 0 ∷ window FewestLetters 0 0 ∷ table 0 0 (0 ∷ 1 ∷ []) ∷ not-valid 1 1 (0 ∷ 0 ∷ 0 ∷ 1 ∷ 0 ∷ 0 ∷ []) ∷ not-valid 0 1 (0 ∷ 0 ∷ 0 ∷ 1 ∷ 0 ∷ 0 ∷ []) ∷ run 1 (1 ∷ 0 ∷ []) (0 ∷ 0 ∷ []) 1 ∷ [];
+      claims = window defaultOrder 0 0 0 ∷ window FewestLetters 0 0 0 ∷ table 0 0 0 (0 ∷ 1 ∷ []) ∷ not-valid 1 1 (0 ∷ 0 ∷ 0 ∷ 1 ∷ 0 ∷ 0 ∷ []) ∷ not-valid 0 1 (0 ∷ 0 ∷ 0 ∷ 1 ∷ 0 ∷ 0 ∷ []) ∷ run 1 (1 ∷ 0 ∷ []) (0 ∷ 0 ∷ []) 1 ∷ [];
     } ∷
     []
 

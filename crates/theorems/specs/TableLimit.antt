@@ -13,7 +13,7 @@ use Rattle.values.specs.declared.CountResult.{CountResult}
 use Rattle.values.specs.declared.CountResult.the-variants.{Refused}
 use Rattle.table_size.specs.Size.{maxTable}
 use Rattle.table_size.specs.Cases.{tableAllowed}
-use Rattle.decoder.specs.Refusal.{sidesRefusal, SidesSmall, tableSize}
+use Rattle.decoder.specs.Refusal.{limitsRefusal, SidesSmall, tableSize}
 use Rattle.decoder.specs.Table.{TablePromise}
 use Rattle.lowhenita.specs.Host.{TableHosted}
 
@@ -23,9 +23,9 @@ abbrev pub CasesExact : Type 0
 CasesExact =
     (o : ℕ) (w : Window) → 1 ≤ o → o ≤ maxOutputs → SidesSmall w → tableAllowed o (size w) ≡ false ↔ maxTable < tableSize o w
 
--- Neither the file nor a side of the window is refused, and the cases refuse the table.
+-- Neither the file nor a number of the window is refused, and the cases refuse the table.
 pub record RefusedByCases (f : List ℕ) (w : Window) : Type 0 where
-  pub sides : sidesRefusal f w ≡ 0
+  pub limits : limitsRefusal f w ≡ 0
   pub not-allowed : tableAllowed (outputsOf f) (size w) ≡ false
 
 pub record TableLimit : Type 0 where

@@ -1,10 +1,11 @@
 // What the calls are given and give: a window, an order of windows, a looped pair, a number of bytes.
 pub mod inner; // inner.rt: the comparison of two windows; no public calls
 
-// A window: how many letters before the present one and after it.
+// A window: how many letters before the present one and after it, and how many letters, unseen, its runs read ahead of it.
 pub struct Window {
     pub before: usize,
     pub after: usize,
+    pub settle: usize,
 }
 
 // The order in which a search reports the least window that works: least lookahead and, among those, fewest letters before; or fewest

@@ -23,6 +23,7 @@ pub struct Limits {
     pub inputs: usize,
     pub outputs: usize,
     pub side: usize,
+    pub settle: usize,
 }
 
 impl Coder {
@@ -34,6 +35,8 @@ impl Coder {
 
     pub const SIDE: usize = 136;
 
+    pub const SETTLE: usize = 64;
+
     // The constants are the limits of specs/Limits.antt.
     pub fn limits() -> Limits
         ensures { λ r. ⌜ r ≡ limitsOf ⌝ }
@@ -43,6 +46,7 @@ impl Coder {
             inputs: Self::INPUTS,
             outputs: Self::OUTPUTS,
             side: Self::SIDE,
+            settle: Self::SETTLE,
         }
     }
 }

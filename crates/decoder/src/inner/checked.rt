@@ -22,7 +22,7 @@ pub fn window(file: &[u8], w: Window, received: &[u8]) -> fitting::Answer
     ensures { λ r. ⌜ RightOf (now (file .entry)) w (now (received .entry)) r ⌝ }
 {
     let c = Coder::from_checked(file);
-    let starts = start_states(c);
+    let starts = start_states(c, w.settle);
     let sets = of_coder(c);
     let place = w.before;
     decode(
@@ -42,7 +42,8 @@ pub fn string(file: &[u8], w: Window, received: &[u8], output: &mut [u8]) -> usi
     ensures { λ r. ⌜ StringGiven (now (file .entry)) w (now (received .entry)) (now (output .entry)) r (now (output .exit)) ⌝ }
 {
     let c = Coder::from_checked(file);
-    let starts = start_states(c);
+    let settle = w.settle;
+    let starts = start_states(c, settle);
     let sets = of_coder(c);
     let present = w.before;
     let n = sizes::letters(w);
@@ -72,7 +73,8 @@ pub fn table(file: &[u8], w: Window, table: &mut [u8]) -> usize
     let inputs = c.inputs;
     let outputs = c.outputs;
     let rows = rows_by_key(&c.output, states, inputs);
-    let starts = start_states(c);
+    let p = w.settle;
+    let starts = start_states(c, p);
     let b = w.before;
     let n = sizes::letters(w);
     let count = size(outputs, n);

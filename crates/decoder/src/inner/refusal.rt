@@ -1,6 +1,6 @@
 // The refusals of the three calls. `others` says whether the lent buffers besides the one of `room` bytes are long enough.
 ghost use mathlib.Core.Path.{_≡_};
-ghost use Rattle.decoder.specs.Refusal.{sidesRefusal, windowRefusal};
+ghost use Rattle.decoder.specs.Refusal.{limitsRefusal, windowRefusal};
 ghost use Rattle.decoder.specs.Places.{stringRefusalIn};
 ghost use Rattle.decoder.specs.Table.{tableRefusalIn};
 use crate::inner::sizes;
@@ -11,9 +11,9 @@ use table_size::inner::allowed;
 use table_size::inner::size;
 use values::Window;
 
-// 1 to 6 and 8, or 0.
-pub fn sides(file: &[u8], w: Window) -> usize
-    ensures { λ r. ⌜ r ≡ sidesRefusal (now (file .entry)) w ⌝ }
+// 1 to 6, 8 and 14, or 0.
+pub fn limits(file: &[u8], w: Window) -> usize
+    ensures { λ r. ⌜ r ≡ limitsRefusal (now (file .entry)) w ⌝ }
 {
     let k = coder::inner::file::refusal(file);
     if k != 0 {
@@ -25,14 +25,14 @@ pub fn sides(file: &[u8], w: Window) -> usize
     if Coder::SIDE < w.after {
         return 8;
     }
-    0
+    if Coder::SETTLE < w.settle { 14 } else { 0 }
 }
 
 // The refusal of a single window, or 0. `fits` says whether all lent buffers are long enough.
 pub fn window(file: &[u8], w: Window, received: &[u8], fits: bool) -> usize
     ensures { λ r. ⌜ r ≡ windowRefusal (now (file .entry)) w (now (received .entry)) fits ⌝ }
 {
-    let k = sides(file, w);
+    let k = limits(file, w);
     if k != 0 {
         return k;
     }
@@ -54,7 +54,7 @@ pub fn window(file: &[u8], w: Window, received: &[u8], fits: bool) -> usize
 pub fn string(file: &[u8], w: Window, received: &[u8], room: usize, others: bool) -> usize
     ensures { λ r. ⌜ r ≡ stringRefusalIn (now (file .entry)) w (now (received .entry)) room others ⌝ }
 {
-    let k = sides(file, w);
+    let k = limits(file, w);
     if k != 0 {
         return k;
     }
@@ -77,7 +77,7 @@ pub fn string(file: &[u8], w: Window, received: &[u8], room: usize, others: bool
 pub fn table(file: &[u8], w: Window, room: usize, others: bool) -> usize
     ensures { λ r. ⌜ r ≡ tableRefusalIn (now (file .entry)) w room others ⌝ }
 {
-    let k = sides(file, w);
+    let k = limits(file, w);
     if k != 0 {
         return k;
     }

@@ -18,7 +18,7 @@ returns c = hosted-refused (c .before .string .ensures) (c .if1 .taken) (record 
 accepted :
     (c : tie.Else1) →
     let a = c .before .before .before .before .before .before .args in
-    Accepted (StringAsked (now (a .file)) (window (a .before) (a .after)) (now (a .received)) (now (a .output))) (now (a .result))
+    Accepted (StringAsked (now (a .file)) (window (a .before) (a .after) (a .settle)) (now (a .received)) (now (a .output))) (now (a .result))
 accepted c = accepted-decode _ _ _ _ _ (via (c .before .string .ensures) (c .if1 .left))
 
 string-requires-2 : tie.Need-string-requires-2

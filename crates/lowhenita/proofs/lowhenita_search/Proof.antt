@@ -20,7 +20,7 @@ refusal-requires c κs = search needs
 told :
     (c : tie.After-refusal) →
     let a = c .before .before .before .before .before .args in
-    c .refusal .result ≡ searchNumber (now (a .file)) (now (a .letters)) (now (a .result))
+    c .refusal .result ≡ searchNumber (now (a .file)) (a .settle) (now (a .letters)) (now (a .result))
 told c = rw (c .before .both-fit .ensures) at (c .refusal .ensures)
 
 returns : tie.Need-returns
@@ -29,10 +29,10 @@ returns c = hosted-refused (told (c .before)) (c .if1 .taken) (record { bytes = 
 accepted :
     (c : tie.Else1) →
     let a = c .before .before .before .before .before .before .args in
-    Accepted (searchRefusal (now (a .file)) (leb wanted (length (now (a .letters)))) ≡ 0) (now (a .result))
+    Accepted (searchRefusal (now (a .file)) (a .settle) (leb wanted (length (now (a .letters)))) ≡ 0) (now (a .result))
 accepted c =
     let a = c .before .before .before .before .before .before .args in
-    accepted-search (now (a .file)) (now (a .letters)) (now (a .result)) (via (told (c .before)) (c .if1 .left))
+    accepted-search (now (a .file)) (a .settle) (now (a .letters)) (now (a .result)) (via (told (c .before)) (c .if1 .left))
 
 checked-requires : tie.Need-checked-requires
 checked-requires c κs = accepted (c .before) .asked

@@ -18,7 +18,7 @@ returns c = hosted-refused (c .before .table .ensures) (c .if1 .taken) (record {
 accepted :
     (c : tie.Else1) →
     let a = c .before .before .before .before .before .args in
-    Accepted (TableAsked (now (a .file)) (window (a .before) (a .after)) (now (a .table))) (now (a .result))
+    Accepted (TableAsked (now (a .file)) (window (a .before) (a .after) (a .settle)) (now (a .table))) (now (a .result))
 accepted c = accepted-table _ _ _ _ (via (c .before .table .ensures) (c .if1 .left))
 
 table-requires-2 : tie.Need-table-requires-2

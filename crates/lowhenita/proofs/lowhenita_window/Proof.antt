@@ -20,7 +20,7 @@ returns c = hosted-refused (c .before .window .ensures) (c .if1 .taken) refl
 accepted :
     (c : tie.Else1) →
     let a = c .before .before .before .before .before .args in
-    Accepted (windowRefusal (now (a .file)) (window (a .before) (a .after)) (now (a .received)) true ≡ 0) (now (a .result))
+    Accepted (windowRefusal (now (a .file)) (window (a .before) (a .after) (a .settle)) (now (a .received)) true ≡ 0) (now (a .result))
 accepted c = accepted-window _ _ _ _ (via (c .before .window .ensures) (c .if1 .left))
 
 window-requires-2 : tie.Need-window-requires-2

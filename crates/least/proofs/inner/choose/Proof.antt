@@ -11,10 +11,10 @@ use Rattle.least.proofs.inner.choose.Statement.{statement}
 use Rattle.least.proofs.inner.choose.Tie as tie
 
 abbrev Inv-loop : tie.InvT-loop
-Inv-loop order need before₀ after₀ a₀ before after a = (a ≤ maxSide) × FirstFrom (relationOf order) need a before after
+Inv-loop order settle need before₀ after₀ a₀ before after a = (a ≤ maxSide) × FirstFrom (relationOf order) need a before after
 
 abbrev μ-loop : tie.MeasureT-loop
-μ-loop order need before₀ after₀ a₀ before after a = a
+μ-loop order settle need before₀ after₀ a₀ before after a = a
 
 element-copy-out-number : tie.Need-element-copy-out-number Inv-loop μ-loop
 element-copy-out-number c = search needs
@@ -76,7 +76,7 @@ loop-again-3 c =
 returns : tie.Need-returns Inv-loop μ-loop
 returns c =
     let f = c .before .loop .inv .1 in
-    record { lookahead = f .lookahead; finite = rw (f .is) at (f .finite); is = f .is; first = λ a l m. f .first a (omega arith) l m }
+    record { settle = refl; lookahead = f .lookahead; finite = rw (f .is) at (f .finite); is = f .is; first = λ a l m. f .first a (omega arith) l m }
 
 pub choose-spec : {M : Type 1} → statement M
 choose-spec =

@@ -42,7 +42,7 @@ window-line-requires c κs =
     let s = searched (founded v) in
     let b = buffered s .buffer in
     let t = start s in
-    let h = window-short _ (b .result) (s .search .last .1 .0) (t .pre .0) (b .ensures) (s .search .ensures) (founded v .found .given .1)
+    let h = window-short _ (b .result) (s .search .last .1 .1 .0) (t .pre .0) (b .ensures) (s .search .ensures) (founded v .found .given .1)
     (v .v .given .1) in
     (omega (arith, h), omega (arith, h), omega (arith, t .pre .1))
 
@@ -59,7 +59,7 @@ no-decoder-requires c κs =
     let s = searched f in
     let b = buffered s .buffer in
     let t = start s in
-    pair-asked _ (b .result) (s .search .last .1 .0) (t .pre .0) (b .ensures) (s .search .ensures) (f .found .given .1) (v .v2 .given .1)
+    pair-asked _ (b .result) (s .search .last .1 .1 .0) (t .pre .0) (b .ensures) (s .search .ensures) (f .found .given .1) (v .v2 .given .1)
     (omega (arith, t .pre .1))
 
 returns : tie.Need-returns
@@ -67,7 +67,7 @@ returns c =
     let s = c .before .before .before in
     let b = buffered s .buffer in
     absurd
-    (never-refused _ (b .result) (s .search .last .1 .0) (start s .pre .0) (b .ensures) (s .search .ensures) (c .enum-told .given .1))
+    (never-refused _ (b .result) (s .search .last .1 .1 .0) (start s .pre .0) (b .ensures) (s .search .ensures) (c .enum-told .given .1))
 
 same-length : tie.Need-same-length
 same-length c = search needs
@@ -78,7 +78,7 @@ returns-2 c =
     let v = w .before .before .before in
     let s = searched (founded v) in
     let b = buffered s .buffer in
-    window-lines _ (b .result) (s .search .last .1 .0) (start s .pre .0) (b .ensures) (s .search .ensures) (founded v .found .given .1)
+    window-lines _ (b .result) (s .search .last .1 .1 .0) (start s .pre .0) (b .ensures) (s .search .ensures) (founded v .found .given .1)
     (v .v .given .1) (w .window-line .ensures)
 
 same-length-2 : tie.Need-same-length-2
@@ -91,7 +91,7 @@ returns-3 c =
     let f = v .before .before .before in
     let s = searched f in
     let b = buffered s .buffer in
-    pair-lines _ (b .result) (s .search .last .1 .0) (start s .pre .0) (b .ensures) (s .search .ensures) (f .found .given .1)
+    pair-lines _ (b .result) (s .search .last .1 .1 .0) (start s .pre .0) (b .ensures) (s .search .ensures) (f .found .given .1)
     (v .v2 .given .1) (d .no-decoder .ensures)
 
 pub verdict-lines-spec : {M : Type 1} → statement M

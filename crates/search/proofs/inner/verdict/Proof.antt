@@ -47,7 +47,7 @@ returns c =
     let d = c .before .before .before .before .before in
     let p = start d .pre in
     pair-says _ _ _ (p .0) (p .1) (backed d .back .ensures) (forwarded d .forward .ensures) (d .count-edges .ensures)
-    (relationOf (start d .args .order)) _ _ _ (c .before .before .find .ensures)
+    (relationOf (start d .args .order)) (start d .args .settle) _ _ _ (c .before .before .find .ensures)
 
 needs-requires : tie.Need-needs-requires
 needs-requires c κs = search needs

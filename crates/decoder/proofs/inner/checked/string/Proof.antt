@@ -10,13 +10,13 @@ use Rattle.decoder.proofs.inner.checked.string.Statement.{statement}
 use Rattle.decoder.proofs.inner.checked.string.Tie as tie
 
 from-checked-requires : tie.Need-from-checked-requires
-from-checked-requires c κs = string-accepted _ _ _ _ (c .before .before .before .pre .accepted) .sides .file
+from-checked-requires c κs = string-accepted _ _ _ _ (c .before .before .before .pre .accepted) .limits .file
 
 coder-of : (c : tie.After-from-checked) → CoderOf (c .from-checked .result) (now (c .before .before .before .before .args .file))
 coder-of c =
     record {
       is = c .from-checked .ensures;
-      file = string-accepted _ _ _ _ (c .before .before .before .before .pre .accepted) .sides .file;
+      file = string-accepted _ _ _ _ (c .before .before .before .before .pre .accepted) .limits .file;
     }
 
 start-states-requires : tie.Need-start-states-requires
@@ -26,10 +26,10 @@ of-coder-requires : tie.Need-of-coder-requires
 of-coder-requires c κs = sound-of (coder-of (c .before))
 
 letters-requires : tie.Need-letters-requires
-letters-requires c κs = string-accepted _ _ _ _ (c .before .before .before .before .before .before .pre .accepted) .sides .small
+letters-requires c κs = string-accepted _ _ _ _ (c .before .before .before .before .before .before .pre .accepted) .limits .small
 
 places-requires : tie.Need-places-requires
-places-requires c κs = string-accepted _ _ _ _ (c .before .before .before .before .before .before .before .pre .accepted) .sides .small
+places-requires c κs = string-accepted _ _ _ _ (c .before .before .before .before .before .before .before .pre .accepted) .limits .small
 
 decode-places-requires : tie.Need-decode-places-requires
 decode-places-requires c κs =
@@ -42,7 +42,7 @@ decode-places-requires c κs =
     let s = sound-of h in
     let r = string-accepted _ _ _ _ (q .accepted) in
     record {
-      tables = record { coder = _; is = tables-of h (tabled .of-coder .ensures) (tabled .before .start-states .ensures) };
+      tables = record { coder = _; is = tables-of h _ (tabled .before .start-states .ensures) (tabled .of-coder .ensures) };
       below =
           letters-higher (outputsOf (now (a .file))) maxOutputs (now (a .received)) (omega (arith, s .outputs-high, outputs-of h))
           (r .letters);
@@ -64,9 +64,9 @@ returns c =
     record {
       counted = sized .places .ensures;
       bytes =
-          places-right h (a .w) (now (a .received)) (sized .before .letters .ensures) (sized .places .ensures)
+          places-right h (a .w) (tabled .before .start-states .ensures) (now (a .received)) (sized .before .letters .ensures) (sized .places .ensures)
           (c .before .before .decode-places .ensures _
-          (tables-of h (tabled .of-coder .ensures) (tabled .before .start-states .ensures)));
+          (tables-of h _ (tabled .before .start-states .ensures) (tabled .of-coder .ensures)));
     }
 
 pub string-spec : {M : Type 1} → statement M

@@ -8,18 +8,18 @@ use denote.Ref.{now}
 use Rattle.coder.specs.File.{outputsOf}
 use Rattle.decoder.specs.Refusal.{tableSize}
 use Rattle.decoder.proofs.Accepting.{table-accepted}
-use Rattle.decoder.proofs.Decoding.{CoderOf, sound-of, outputs-of, keys-of, rows-of, table-right}
+use Rattle.decoder.proofs.Decoding.{CoderOf, sound-of, outputs-of, keys-of, rows-of, starts-of, table-right}
 use Rattle.decoder.proofs.inner.checked.table.Statement.{statement}
 use Rattle.decoder.proofs.inner.checked.table.Tie as tie
 
 from-checked-requires : tie.Need-from-checked-requires
-from-checked-requires c κs = table-accepted _ _ _ (c .before .before .pre .accepted) .sides .file
+from-checked-requires c κs = table-accepted _ _ _ (c .before .before .pre .accepted) .limits .file
 
 coder-of : (c : tie.After-from-checked) → CoderOf (c .from-checked .result) (now (c .before .before .before .args .file))
 coder-of c =
     record {
       is = c .from-checked .ensures;
-      file = table-accepted _ _ _ (c .before .before .before .pre .accepted) .sides .file;
+      file = table-accepted _ _ _ (c .before .before .before .pre .accepted) .limits .file;
     }
 
 rows-by-key-requires : tie.Need-rows-by-key-requires
@@ -29,7 +29,7 @@ start-states-requires : tie.Need-start-states-requires
 start-states-requires c κs = sound-of (coder-of (c .before .before .before))
 
 letters-requires : tie.Need-letters-requires
-letters-requires c κs = table-accepted _ _ _ (c .before .before .before .before .before .before .before .pre .accepted) .sides .small
+letters-requires c κs = table-accepted _ _ _ (c .before .before .before .before .before .before .before .pre .accepted) .limits .small
 
 size-requires : tie.Need-size-requires
 size-requires c κs =
@@ -93,9 +93,9 @@ returns c =
     record {
       counted = count-is k;
       bytes =
-          table-right h (made k .before .before .before .args .w) (outputs-of h) (k .before .letters .ensures) (count-is k) (room k)
+          table-right h (made k .before .before .before .args .w) (k .before .before .start-states .ensures) (outputs-of h) (k .before .letters .ensures) (count-is k) (room k)
           (c .before .before .fill .ensures _ (rows-of h (k .before .before .before .rows-by-key .ensures)) refl
-          (k .before .before .start-states .ensures));
+          (starts-of h _ (k .before .before .start-states .ensures)));
     }
 
 pub table-spec : {M : Type 1} → statement M

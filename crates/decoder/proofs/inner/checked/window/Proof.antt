@@ -10,11 +10,11 @@ use Rattle.decoder.proofs.inner.checked.window.Statement.{statement}
 use Rattle.decoder.proofs.inner.checked.window.Tie as tie
 
 from-checked-requires : tie.Need-from-checked-requires
-from-checked-requires c κs = window-accepted _ _ _ _ (c .before .before .pre) .sides .file
+from-checked-requires c κs = window-accepted _ _ _ _ (c .before .before .pre) .limits .file
 
 coder-of : (c : tie.After-from-checked) → CoderOf (c .from-checked .result) (now (c .before .before .before .args .file))
 coder-of c =
-    record { is = c .from-checked .ensures; file = window-accepted _ _ _ _ (c .before .before .before .pre) .sides .file }
+    record { is = c .from-checked .ensures; file = window-accepted _ _ _ _ (c .before .before .before .pre) .limits .file }
 
 start-states-requires : tie.Need-start-states-requires
 start-states-requires c κs = sound-of (coder-of c)
@@ -30,7 +30,7 @@ decode-requires c κs =
     let h = coder-of k in
     let s = sound-of h in
     let r = window-accepted _ _ _ _ (k .before .before .before .pre) in (
-      record { coder = _; is = tables-of h (tabled .of-coder .ensures) (tabled .before .start-states .ensures) },
+      record { coder = _; is = tables-of h _ (tabled .before .start-states .ensures) (tabled .of-coder .ensures) },
       letters-higher (outputsOf (now (a .file))) maxOutputs (now (a .received)) (omega (arith, s .outputs-high, outputs-of h))
           (r .letters),
       omega (arith, r .long),
@@ -42,8 +42,8 @@ returns c =
     let k = tabled .before .before in
     let a = k .before .before .before .args in
     let h = coder-of k in
-    right-of h (now (a .received)) (a .w .before) (c .decode .result)
-    (c .decode .ensures _ (tables-of h (tabled .of-coder .ensures) (tabled .before .start-states .ensures)))
+    right-of h (a .w .settle) (tabled .before .start-states .ensures) (now (a .received)) (a .w .before) (c .decode .result)
+    (c .decode .ensures _ (tables-of h _ (tabled .before .start-states .ensures) (tabled .of-coder .ensures)))
 
 pub window-spec : {M : Type 1} → statement M
 window-spec =

@@ -6,12 +6,10 @@ use Prim.Native.Nat.{ℕ, _+_, _≤_, _<_, _-_}
 use mathlib.Core.Path.{_≡_, refl}
 use borrow.Author.Needs.{needs}
 use native.Mathlib.Omega.{arith}
-use Rattle.setting.specs.Words.{settingOfCoder}
+use Rattle.setting.specs.Words.{fromWord}
 use Rattle.fitting.proofs.Answers.{right-byte}
 use Rattle.decoder.proofs.Writing.{written-none, written-more}
 use Rattle.decoder.specs.Places.{PlacesGiven}
-use Rattle.fitting.specs.Tables.{TablesOf}
-use Rattle.coder.specs.declared.inner.tables.Coder.{Coder}
 use Rattle.mealy.proofs.ComesBack.{letters-take, letters-drop}
 use Rattle.decoder.proofs.inner.places.decode_places.Statement.{statement}
 use Rattle.decoder.proofs.inner.places.decode_places.Tie as tie
@@ -79,7 +77,7 @@ loop-again c =
       search needs,
       λ d a. written-more (i .inv .2 d a) (omega (arith, s .pre, i .inv, c .before .before .before .loop-test))
           (rw (c .answer-byte .ensures)
-          (rw n at (right-byte (settingOfCoder d) part (p .b) (c .before .decode .result) (c .before .decode .ensures d a)))),
+          (rw n at (right-byte (fromWord d (p .starts)) part (p .b) (c .before .decode .result) (c .before .decode .ensures d a)))),
     )
 
 same-length : tie.Need-same-length Inv-loop μ-loop

@@ -1,34 +1,34 @@
--- `refusal::string` meets its contract: the refusals of the file and the sides, then 11 and 13 in order.
+-- `refusal::string` meets its contract: the refusals of the file and of the window's numbers, then 11 and 13 in order.
 use mathlib.Core.Path.{_≡_}
 use native.Mathlib.Omega.{arith}
 use denote.Ref.{now}
 use borrow.Author.Needs.{needs}
 use Rattle.coder.proofs.Refusals.{refused-first, tests, via}
 use Rattle.coder.proofs.Accepted.{accepted}
-use Rattle.decoder.specs.Refusal.{sidesRefusal, stringRefusal}
-use Rattle.decoder.proofs.Accepting.{sides-accepted}
+use Rattle.decoder.specs.Refusal.{limitsRefusal, stringRefusal}
+use Rattle.decoder.proofs.Accepting.{limits-accepted}
 use Rattle.decoder.proofs.inner.refusal.string.Statement.{statement}
 use Rattle.decoder.proofs.inner.refusal.string.Tie as tie
 
-sides-requires : tie.Need-sides-requires
-sides-requires c κs = search needs
+limits-requires : tie.Need-limits-requires
+limits-requires c κs = search needs
 
 returns : tie.Need-returns
 unfolding stringRefusal
-returns c = refused-first _ _ (c .before .sides .ensures) (c .if1 .taken)
+returns c = refused-first _ _ (c .before .limits .ensures) (c .if1 .taken)
 
-not-refused : (c : tie.Else1) → let a = c .before .before .before .before .args in sidesRefusal (now (a .file)) (a .w) ≡ 0
-not-refused c = via (c .before .sides .ensures) (c .if1 .left)
+not-refused : (c : tie.Else1) → let a = c .before .before .before .before .args in limitsRefusal (now (a .file)) (a .w) ≡ 0
+not-refused c = via (c .before .limits .ensures) (c .if1 .left)
 
 places-requires : tie.Need-places-requires
-places-requires c κs = sides-accepted _ _ (not-refused c) .small
+places-requires c κs = limits-accepted _ _ (not-refused c) .small
 
 returns-2 : tie.Need-returns-2
 unfolding stringRefusal
 returns-2 c = rw (not-refused (c .before .before), ← (c .before .places .ensures)) (search tests)
 
 byte-requires : tie.Need-byte-requires
-byte-requires c κs = omega (arith, accepted _ (sides-accepted _ _ (not-refused (c .before .before .before)) .file))
+byte-requires c κs = omega (arith, accepted _ (limits-accepted _ _ (not-refused (c .before .before .before)) .file))
 
 letters-below-requires : tie.Need-letters-below-requires
 letters-below-requires c κs = search needs
@@ -55,7 +55,7 @@ pub string-spec : {M : Type 1} → statement M
 string-spec =
     tie.close
     (tie.spec
-    sides-requires
+    limits-requires
     returns
     places-requires
     returns-2
