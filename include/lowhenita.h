@@ -169,7 +169,7 @@ size_t lowhenita_search(const uint8_t *file, size_t file_len,
  * each, at the front of `output`: the letter that alone fits, LOWHENITA_NONE or LOWHENITA_SEVERAL. Byte k belongs to place
  * k + before and is decoded from the window's own letters alone, not from those ahead of it. With a window that works, the letters
  * that a run from a reachable state was given come back at the places that have a full window and `settle` letters ahead of it: bytes
- * settle and on. The bytes before these are decoded in the same way, and nothing is promised of them.
+ * settle and on. The bytes before these are decoded in the same way, and nothing more is promised of them.
  * Field 0: the number of bytes written, received_len - before - after, or 0 where the string is shorter than one window.
  * Refusals, in checking order: 1 to 6, 8, 14, 11 (output too short, or result), 13.
  */

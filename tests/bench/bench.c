@@ -298,7 +298,7 @@ static void bench_all_pairs(void)
 static void bench_settle(void)
 {
     settle = LOWHENITA_MAX_SETTLE;
-    make_telling_line(&file, 14);
+    make_line_like_g(&file, 14);
     bench_search("search: line, 16 states, settle count 64");
     bench_string("string: line, 16 states, window 0 0, settle count 64", 0, 0, LETTERS);
     bench_table("table: line, 16 states, 46,656 bytes, settle count 64", 3, 2);

@@ -79,7 +79,7 @@ int main(int argc, char **argv)
     all_calls(f.bytes, f.len, 0, argc > 1);
     make_closed_both(&f, 16, 13);
     all_calls(f.bytes, f.len, 0, argc > 1);
-    make_telling_line(&f, 14);
+    make_line_like_g(&f, 14);
     all_calls(f.bytes, f.len, LOWHENITA_MAX_SETTLE, argc > 1);
     free(bytes);
     free(result);

@@ -177,7 +177,7 @@ void change_entry(coder_file *f)
 
 /* ---- lines ---- */
 
-void make_silent_line(coder_file *f, size_t line, const coder_file *end)
+void make_constant_line(coder_file *f, size_t line, const coder_file *end)
 {
     size_t states = end->bytes[3], inputs = end->bytes[4], outputs = end->bytes[5], k;
 
@@ -189,7 +189,7 @@ void make_silent_line(coder_file *f, size_t line, const coder_file *end)
                   end->bytes[7 + 2 * k]);
 }
 
-void make_telling_line(coder_file *f, size_t line)
+void make_line_like_g(coder_file *f, size_t line)
 {
     size_t k, i;
 

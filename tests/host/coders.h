@@ -42,12 +42,12 @@ void make_random(coder_file *f, size_t states, size_t inputs, size_t outputs);
 /* A line of states, each entered from the one before it alone and whatever the letter, that ends in
    state 0 of a coder: its states come after the line's. The states of the line put out one letter
    that the coder has not. */
-void make_silent_line(coder_file *f, size_t line, const coder_file *end);
+void make_constant_line(coder_file *f, size_t line, const coder_file *end);
 
 /* The same, but the last state of the line leads to one of two states by its letter, puts out letter
    0 for both, and the states before it put out 4 or 5 by their letters. The two states at the end
    stay: one puts out 0 or 1 by its letter, the other 2 or 3. With two states it is coder G. */
-void make_telling_line(coder_file *f, size_t line);
+void make_line_like_g(coder_file *f, size_t line);
 
 /* One entry of the file made anew at random. */
 void change_entry(coder_file *f);

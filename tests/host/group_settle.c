@@ -284,7 +284,7 @@ static void coder_g(void)
     example e;
 
     make_example(6, &e);
-    make_telling_line(&line, 2);
+    make_line_like_g(&line, 2);
     known_value("the line's length", line.len, e.file.len);
     known_value("the line's order", (size_t)memcmp(line.bytes, e.file.bytes, line.len), 0);
     letters_of_g(&e.file);
@@ -325,7 +325,7 @@ static void random_coder(size_t states, size_t line)
     size_t p;
 
     make_random(&end, states, 1 + random_below(4), 1 + random_below(8));
-    make_silent_line(&f, line, &end);
+    make_constant_line(&f, line, &end);
     compare_starts(&f);
     search(&f, 0);
     for (p = 1; p <= SETTLED + 1; p++)

@@ -19,7 +19,7 @@ static size_t rest_of(size_t line, size_t settle)
     return line > settle ? line - settle : 0;
 }
 
-/* Silent: what a state of the line puts out and where it leads does not depend on the letter, so no
+/* What a state of the line puts out and where it leads does not depend on the letter, so no
    lookahead helps there, and every window needs b >= m - p. Such a window works if it works for the
    end. Two runs with equal outputs are in the end from the window's first letter on both, or have
    both come there at one place, for the line's letter is none of the end's; then they came into one
@@ -32,7 +32,7 @@ static size_t rest_of(size_t line, size_t settle)
    D: the letter shows in the next output and in no other, so a >= 1 besides: window m - p 1.
 
    These windows work, and those with more letters on a side, and no others. */
-static void silent(size_t line, size_t settle, size_t end, visitor *visit)
+static void constant(size_t line, size_t settle, size_t end, visitor *visit)
 {
     size_t rest = rest_of(line, settle), before = end == A && rest == 0 ? 1 : rest;
     const least w = {YES, before, end == D};
@@ -43,18 +43,18 @@ static void silent(size_t line, size_t settle, size_t end, visitor *visit)
     make_example(end, &e);
     if (line + e.file.bytes[3] > 16)
         return;
-    make_silent_line(&f, line, &e.file);
+    make_constant_line(&f, line, &e.file);
     visit(&f, settle, known);
 }
 
-/* Telling, of which coder G has m = 2: the letter is told by the output in all states of the line but
-   the last, and there by the next output, since the two states at the end have no output in common.
+/* As coder G, which has m = 2: the letter is told by the output in all states of the line but the
+   last, and there by the next output, since the two states at the end have no output in common.
    With a = 0 two runs in the line's last state have one output under both letters, so b >= m - p is
    needed; then the present letter is read in the end, whose outputs tell it. With a >= 1 every
    window works: the last state's letters are told from each other by the next output, and so is its
    letter 1 from letter 0 of the first of the two states, which puts out the same. Least lookahead:
    m - p 0. Fewest letters: 0 1 has two, which is fewer where m - p is 2 or more. */
-static void telling(size_t line, size_t settle, visitor *visit)
+static void like_g(size_t line, size_t settle, visitor *visit)
 {
     size_t rest = rest_of(line, settle);
     least known[ORDERS] = {{YES, rest, 0}, {YES, rest, 0}};
@@ -64,17 +64,17 @@ static void telling(size_t line, size_t settle, visitor *visit)
         known[FEWEST_LETTERS].before = 0;
         known[FEWEST_LETTERS].after = 1;
     }
-    make_telling_line(&f, line);
+    make_line_like_g(&f, line);
     visit(&f, settle, known);
 }
 
 void each_known_line(size_t line, size_t settle, visitor *visit)
 {
-    silent(line, settle, A, visit);
-    silent(line, settle, B, visit);
-    silent(line, settle, D, visit);
+    constant(line, settle, A, visit);
+    constant(line, settle, B, visit);
+    constant(line, settle, D, visit);
     if (line <= 14)
-        telling(line, settle, visit);
+        like_g(line, settle, visit);
 }
 
 /* A to E and H: every reachable state is entered from one, so settle counts change nothing.
