@@ -16,7 +16,7 @@ enum { TURNS = 15, LETTERS = 20000, TABLE = 65536, CODERS = 200 };
 static coder_file file;
 static uint8_t input[LETTERS], sent[LETTERS], mine[TABLE], theirs[TABLE];
 static uint8_t my_letters[1026], their_letters[1026], result[64];
-static size_t before, after, settle, letters; /* the settle count is 0 but where main sets it */
+static size_t before, after, settle, letters; /* the settle count is 0 but in bench_settle */
 
 static uint64_t field(int k)
 {

@@ -1,5 +1,6 @@
 /* The brute-force enumerator: runs, windows, pairs and refusals judged by enumeration from their
-   definitions. It shares no code and no method with the library it is compared with. */
+   definitions. It shares no code with the library it is compared with, and no method but two: the
+   cases of the table limit, and start states found letter by letter where there are many strings. */
 #ifndef ENUMERATOR_H
 #define ENUMERATOR_H
 
@@ -156,7 +157,8 @@ int pair_keeps_bounds(const coder *c, const pair *p);
 /* Turned: equal outputs everywhere and different letters at the marked place. */
 int turned_pair_confuses(const coder *c, const pair *p, size_t back, size_t forward);
 
-/* Cut from the turned pair: two runs of before + 1 + after letters that the window confuses. */
+/* Cut from the turned pair: two runs of before + 1 + after letters that the window confuses, with
+   the letters ahead of it that the settle count asks for. */
 int pair_refutes_window(const coder *c, const pair *p, size_t before, size_t after);
 
 /* ---- enumerator_first.c ---- */

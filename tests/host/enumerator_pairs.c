@@ -112,8 +112,8 @@ int pair_refutes_window(const coder *c, const pair *p, size_t before, size_t aft
 
     if (p->letters[2 * marked] == p->letters[2 * marked + 1])
         return 0;
-    start_of_cut(c, p, place_before(p, before), state);
-    for (k = before; k > 0; k--)
+    start_of_cut(c, p, place_before(p, c->settle + before), state);
+    for (k = c->settle + before; k > 0; k--)
         if (!follow_both(c, p, place_before(p, k), 1, state))
             return 0;
     if (!follow_both(c, p, marked, 1, state))

@@ -26,6 +26,7 @@ use Rattle.decoder.specs.Table.{tableRefusalIn, TableAsked}
 pub record LimitsAccepted (f : List ℕ) (w : Window) : Type 0 where
   pub file : fileRefusal f ≡ 0
   pub small : SidesSmall w
+  pub settle-small : w .settle ≤ maxSettle
 
 pub limits-accepted : (f : List ℕ) (w : Window) → limitsRefusal f w ≡ 0 → LimitsAccepted f w
 unfolding limitsRefusal
@@ -35,7 +36,11 @@ limits-accepted f w e =
     let p = first-none (fileRefusal f) (refuse (not t) 8 rest) e in
     let q = refuse-not t 8 rest (lit< tt) (p .1) in
     let s = both-true (leb (w .before) maxSide) (leb (w .after) maxSide) (q .0) in
-    record { file = p .0; small = record { before-small = leb-true _ _ (s .0); after-small = leb-true _ _ (s .1) } }
+    record {
+      file = p .0;
+      small = record { before-small = leb-true _ _ (s .0); after-small = leb-true _ _ (s .1) };
+      settle-small = leb-true _ _ (refuse-not (leb (w .settle) maxSettle) 14 0 (lit< tt) (q .1) .0);
+    }
 
 -- ---- one window
 

@@ -104,17 +104,17 @@ TableHosted f w before result r after result′ =
 -- ---- the checker of looped pairs
 
 abbrev pub checkNumber : List ℕ → LoopedPair → List ℕ → ℕ
-checkNumber f p result = checkRefusal f p (roomy result)
+checkNumber f q result = checkRefusal f q (roomy result)
 
 -- There is a yes or a no that judges the pair, and field 0 is its number.
-pub record JudgementGiven (f : List ℕ) (p : LoopedPair) (result result′ : List ℕ) : Type 0 where
+pub record JudgementGiven (f : List ℕ) (q : LoopedPair) (result result′ : List ℕ) : Type 0 where
   pub judgement : Bool
-  pub judges : Judges (Valid (settingOf f) p) judgement
+  pub judges : Judges (Valid (settingOf f) q) judgement
   pub fields : result′ ≡ withFields result (numberOf judgement ∷ [])
 
 -- "Looped pair", the sentence on the checker, for a host: field 0 is 1 for a valid pair and 0 for any other.
 abbrev pub CheckHosted : List ℕ → LoopedPair → List ℕ → ℕ → List ℕ → Type 0
-CheckHosted f p result r result′ = Hosted (checkNumber f p result) r (result′ ≡ result) (JudgementGiven f p result result′)
+CheckHosted f q result r result′ = Hosted (checkNumber f q result) r (result′ ≡ result) (JudgementGiven f q result result′)
 
 -- ---- one window
 

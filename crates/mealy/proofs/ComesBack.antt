@@ -62,7 +62,7 @@ module _ (S : Setting) (differ : (i j : ℕ) → i ≢ j → S .Conflict i j) (b
     ];
   }
 
-  -- the part that starts at place k of the outputs has its present letter at place k + b, where the run is then in a start state
+  -- where the run is in a start state after k letters: the part of the outputs that starts at place k has its present letter at place k + b
   pub comes-back-at :
       (s : ℕ) (xs : List ℕ) (k : ℕ) → Start (end M s (take k xs)) → Letters (M .inputs) xs → k + (b + 1 + a) ≤ length xs →
       Answers S (take (b + 1 + a) (drop k (outs M s xs))) b (letter (getD xs (k + b) 0))

@@ -1,5 +1,5 @@
--- Windows of different settle counts: settle letters can be read as letters before; so existence is the same for every count, a larger
--- count never gives a later window, and from N - 1 on nothing changes.
+-- Windows of different settle counts: the letters of the settle count can be read as letters before; so existence is the same for every
+-- count, a larger count never gives a later window, and from N - 1 on nothing changes.
 use mathlib.Core.Path.{_≡_, sym, ap, _∙_}
 use mathlib.Core.Logic.{_≢_}
 use mathlib.Core.List.{List}
@@ -14,7 +14,7 @@ use Rattle.mealy.specs.Window.{EqualOutputs, Works}
 use Rattle.mealy.specs.Order.{Relation, Least}
 use Rattle.mealy.proofs.ComesBack.{drop-outs, letters-take, letters-drop}
 use Rattle.mealy.proofs.SameSettings.{same-starts}
-use Rattle.mealy.proofs.StartStates.{start-along, start-down, after-closed, start-settled}
+use Rattle.mealy.proofs.StartStates.{start-along, start-down, after-closed, start-unchanged}
 
 -- two runs with equal outputs, without their first d letters
 equal-drop :
@@ -58,8 +58,8 @@ module _ (M : Machine) where
   least-later R p q b a b′ a′ l m n = n .least b a (works-later p q b a l (m .works))
 
   -- From N - 1 letters on the settings say the same.
-  pub same-settled :
+  pub same-unchanged :
       Total M → 0 < M .states → 0 < M .inputs → (p q : ℕ) → M .states ≤ suc p → M .states ≤ suc q → Same (afterLetters M p) (afterLetters M q)
-  same-settled total some inputs p q l m =
-      same-starts M (λ i j. i ≢ j) (after-closed M p) (λ s h. start-settled M total some inputs p l s h q)
-      (λ s h. start-settled M total some inputs q m s h p)
+  same-unchanged total some inputs p q l m =
+      same-starts M (λ i j. i ≢ j) (after-closed M p) (λ s h. start-unchanged M total some inputs p l s h q)
+      (λ s h. start-unchanged M total some inputs q m s h p)

@@ -158,7 +158,7 @@ module _ (M : Machine) where
 
     -- ---- from N - 1 letters on the start states no longer change
 
-    pub start-settled : 0 < M .inputs → (p : ℕ) → M .states ≤ suc p → (s : ℕ) → StartAfter M p s → (q : ℕ) → StartAfter M q s
-    start-settled inputs p l =
+    pub start-unchanged : 0 < M .inputs → (p : ℕ) → M .states ≤ suc p → (s : ℕ) → StartAfter M p s → (q : ℕ) → StartAfter M q s
+    start-unchanged inputs p l =
         let z = stops-shrinking (M .states) (StartAfter M) dec-start-after after-bounded start-fall (start-some inputs) in
         start-always p (start-keeps (z .0) (z .2) p (omega arith))

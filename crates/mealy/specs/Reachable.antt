@@ -1,4 +1,4 @@
--- Reachable states, the states after settle letters, entries from state to state, and machines that differ in spare states alone.
+-- Reachable states, the start states of a settle count, entries from state to state, and machines that differ in spare states alone.
 use Prim.Native.Nat.{ℕ, _<_}
 use mathlib.Core.Path.{_≡_}
 use mathlib.Core.List.{List}

@@ -32,7 +32,7 @@ abbrev pub afterLetters : Machine → ℕ → Setting
 afterLetters M p = record { M = M; Start = StartAfter M p; Conflict = λ i j. i ≢ j }
 
 -- The setting of document 01 alone ("Coders and runs", fourth sentence): a run may start in any state. Where every state is reachable and
--- no letter is for settling it says the same (`all-reachable` of proofs/SameSettings.antt).
+-- no letter is for settling it says the same (`all-reachable` of proofs/SpareStates.antt).
 abbrev pub anyState : Machine → Setting
 anyState M = record { M = M; Start = λ s. s < M .states; Conflict = λ i j. i ≢ j }
 

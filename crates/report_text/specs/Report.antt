@@ -45,7 +45,7 @@ windowLine b a = windowWord ++ decimal b ++ space ++ decimal a ++ lineFeed
 -- count 0 (6/13); or, where no window works, those of no decoder with the first looped pair (2/13).
 pub data VerdictLines (f : List ℕ) : List ℕ → Type 0 where
   a-window : (b a : ℕ) → Least (relationOf defaultOrder) (settingAfter f 0) b a → VerdictLines f (windowLine b a)
-  no-window : (p : LoopedPair) → ((b a : ℕ) → Works (settingAfter f 0) b a → ⊥) → First (settingOf f) p → VerdictLines f (pairText p)
+  no-window : (q : LoopedPair) → ((b a : ℕ) → Works (settingAfter f 0) b a → ⊥) → First (settingOf f) q → VerdictLines f (pairText q)
 
 -- The text is this first line, and the right lines behind it.
 pub record AllLines (f line text : List ℕ) : Type 0 where

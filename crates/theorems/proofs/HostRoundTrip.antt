@@ -52,7 +52,7 @@ module _ (f : List ℕ) (file-ok : fileRefusal f ≡ 0) where
       let z = field-at result (verdictFields (NoDecoder q)) 0 (lit< tt) (lit< tt) in
       absurd (omega arith)
 
-  window-found :
+  pub window-found :
       (p : ℕ) (letters result letters′ result′ : List ℕ) → SearchHosted f p letters result 0 letters′ result′ → fieldAt result′ 0 ≡ 0 →
       SearchPromise defaultOrder f p letters (Found (Least (windowRead result′ p))) letters′
   window-found p letters result letters′ result′ found e =

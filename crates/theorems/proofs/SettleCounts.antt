@@ -1,31 +1,49 @@
 -- Settle counts: what a larger one changes, and from which one on nothing changes.
-use mathlib.Core.Path.{_≡_, refl, sym, _∙_}
+use mathlib.Core.Path.{_≡_, refl, sym, ap, _∙_}
+use mathlib.Core.Logic.{_↔_}
 use mathlib.Core.List.{List}
 use Prim.Native.Nat.{ℕ, _≤_}
 use native.Mathlib.Omega.{arith}
+use lib.Dec.{lit<}
 use borrow.Author.Tests.{le-leb}
 use Rattle.mealy.specs.Setting.{Same}
 use Rattle.mealy.proofs.Unseen.{works↔same-letter, fits↔fits-after}
-use Rattle.mealy.proofs.SettleCounts.{least-later, same-settled}
+use Rattle.mealy.proofs.SettleCounts.{least-later, same-unchanged}
 use Rattle.coder.specs.Limits.{maxSettle}
 use Rattle.coder.specs.File.{fileRefusal, machineOf, settingAfter}
 use Rattle.coder.proofs.Accepted.{accepted}
 use Rattle.coder.proofs.Tables.{total, some-state}
-use Rattle.values.specs.Order.{relationOf}
-use Rattle.search.specs.declared.Verdict.the-variants.{Least}
+use Rattle.values.specs.Order.{relationOf, defaultOrder}
+use Rattle.values.specs.declared.Window.{Window}
+use Rattle.values.specs.declared.Order.{Order}
+use Rattle.values.specs.declared.LoopedPair.{LoopedPair}
+use Rattle.search.specs.Search.{IsNoDecoder, SearchPromise}
+use Rattle.search.specs.declared.Verdict.{Verdict}
+use Rattle.search.specs.declared.Verdict.the-variants.{Least, NoDecoder}
+use Rattle.search.specs.declared.SearchResult.the-variants.{Found}
+use Rattle.search.proofs.Files.{search-accepted}
 use Rattle.search.proofs.Determined.{found, no-decoder-any, pair-any}
+use Rattle.layout.specs.Layout.{withFields, verdictFields, fieldAt}
+use Rattle.layout.proofs.Reading.{field-at}
+use Rattle.lowhenita.specs.Host.{SearchHosted}
+use Rattle.lowhenita.proofs.Handing.{accepted-search}
+use Rattle.theorems.specs.Demands.{NoLater}
+use Rattle.theorems.specs.Handed.{FoundFromC}
+use Rattle.theorems.specs.RoundTrip.{windowRead}
+use Rattle.theorems.proofs.Handing.{search-found}
+use Rattle.theorems.proofs.HostRoundTrip.{window-found}
 use Rattle.theorems.specs.SettleCounts.{SameWith, SettleCounts}
 use Rattle.theorems.proofs.Demands.{no-later-said}
 use Rattle.theorems.proofs.Alike.{Alike, search-alike, search-alike-from-C, answers-alike, answers-alike-from-C}
 
 module _ (f : List ℕ) (p p′ : ℕ) (ok : fileRefusal f ≡ 0) (l : 15 ≤ p) (m : p ≤ maxSettle) (l′ : 15 ≤ p′)
     (m′ : p′ ≤ maxSettle) where
-  windows-settled : Same (settingAfter f p) (settingAfter f p′)
+  windows-unchanged : Same (settingAfter f p) (settingAfter f p′)
   unfolding machineOf
-  windows-settled =
+  windows-unchanged =
       let a = accepted f ok in
       let k = a .entries .limits in
-      same-settled (machineOf f) (total f a) (some-state f a) (k .inputs-low) p p′ (omega (arith, k .states-high)) (omega (arith, k .states-high))
+      same-unchanged (machineOf f) (total f a) (some-state f a) (k .inputs-low) p p′ (omega (arith, k .states-high)) (omega (arith, k .states-high))
 
   alike : Alike f f p p′
   alike =
@@ -34,7 +52,7 @@ module _ (f : List ℕ) (p p′ : ℕ) (ok : fileRefusal f ≡ 0) (l : 15 ≤ p)
         small = le-leb p maxSettle m ∙ sym (le-leb p′ maxSettle m′);
         outputs = refl;
         fewer = omega arith;
-        windows = windows-settled;
+        windows = windows-unchanged;
         firsts = λ q x. x;
       }
 
@@ -47,16 +65,88 @@ module _ (f : List ℕ) (p p′ : ℕ) (ok : fileRefusal f ≡ 0) (l : 15 ≤ p)
         answers-from-C = answers-alike-from-C alike;
       }
 
+-- of two settle counts, the larger gives no later window
+larger :
+    (o : Order) (f : List ℕ) (p p′ : ℕ) (before before′ : List ℕ) (w w′ : Window) (after after′ : List ℕ) → p ≤ p′ →
+    SearchPromise o f p before (Found (Least w)) after → SearchPromise o f p′ before′ (Found (Least w′)) after′ →
+    NoLater o w′ (w .before) (w .after)
+larger o f p p′ before before′ w w′ after after′ l x y =
+    no-later-said o w′ (w .before) (w .after)
+    (least-later (machineOf f) (relationOf o) p p′ (w .before) (w .after) (w′ .before) (w′ .after) l
+    (found o f p before (Least w) after x .says .least) (found o f p′ before′ (Least w′) after′ y .says .least))
+
+-- ---- from C
+
+-- field 0 of a verdict
+abbrev kind : Verdict → ℕ
+kind (Least w) = 0
+kind (NoDecoder q) = 1
+
+kind-read : (result : List ℕ) (v : Verdict) → fieldAt (withFields result (verdictFields v)) 0 ≡ kind v
+kind-read result (Least w) = field-at result (verdictFields (Least w)) 0 (lit< tt) (lit< tt)
+kind-read result (NoDecoder q) = field-at result (verdictFields (NoDecoder q)) 0 (lit< tt) (lit< tt)
+
+same-kind : (v v′ : Verdict) → IsNoDecoder v ↔ IsNoDecoder v′ → kind v ≡ kind v′
+same-kind (Least w) (Least w′) e = refl
+same-kind (Least w) (NoDecoder q′) e = absurd (e .1 tt)
+same-kind (NoDecoder q) (Least w′) e = absurd (e .0 tt)
+same-kind (NoDecoder q) (NoDecoder q′) e = refl
+
+module _ (f : List ℕ) (p : ℕ) {before result after given : List ℕ} (h : SearchHosted f p before result 0 after given) where
+  read : FoundFromC f p before result after given
+  read = search-found f p before result after given h
+
+  read-kind : fieldAt given 0 ≡ kind (read .verdict)
+  read-kind = ap (λ (r : List ℕ). fieldAt r 0) (read .fields) ∙ kind-read result (read .verdict)
+
+  file-ok : fileRefusal f ≡ 0
+  file-ok = search-accepted f p _ (accepted-search f p before result (sym (h .number)) .asked) .file
+
+existence-read :
+    (f : List ℕ) (p p′ : ℕ) (before result after given before′ result′ after′ given′ : List ℕ) →
+    SearchHosted f p before result 0 after given → SearchHosted f p′ before′ result′ 0 after′ given′ → fieldAt given 0 ≡ fieldAt given′ 0
+existence-read f p p′ before result after given before′ result′ after′ given′ h h′ =
+    let x = read f p h in
+    let y = read f p′ h′ in
+    read-kind f p h
+    ∙ same-kind (x .verdict) (y .verdict)
+    (no-decoder-any defaultOrder defaultOrder f p p′ before before′ (x .verdict) (y .verdict) after after′ (x .promised) (y .promised))
+    ∙ sym (read-kind f p′ h′)
+
+pair-read :
+    (f : List ℕ) (p p′ : ℕ) (before result after given after′ given′ : List ℕ) → SearchHosted f p before result 0 after given →
+    SearchHosted f p′ before result 0 after′ given′ → fieldAt given 0 ≡ 1 → (after ≡ after′) × (given ≡ given′)
+pair-read f p p′ before result after given after′ given′ h h′ e =
+    let x = read f p h in
+    let y = read f p′ h′ in
+    go (x .verdict) (y .verdict) (sym (read-kind f p h) ∙ e)
+    (sym (read-kind f p′ h′) ∙ sym (existence-read f p p′ before result after given before result after′ given′ h h′) ∙ e) (x .promised)
+    (y .promised) (x .fields) (y .fields)
+  where
+    go :
+        (v v′ : Verdict) → kind v ≡ 1 → kind v′ ≡ 1 → SearchPromise defaultOrder f p before (Found v) after →
+        SearchPromise defaultOrder f p′ before (Found v′) after′ → given ≡ withFields result (verdictFields v) →
+        given′ ≡ withFields result (verdictFields v′) → (after ≡ after′) × (given ≡ given′)
+    go (Least w) v′ k k′ x y d d′ = absurd (omega arith)
+    go (NoDecoder q) (Least w′) k k′ x y d d′ = absurd (omega arith)
+    go (NoDecoder q) (NoDecoder q′) k k′ x y d d′ =
+        let z = pair-any defaultOrder defaultOrder f p p′ before q q′ after after′ x y in
+        (z .1, d ∙ ap (λ (u : LoopedPair). withFields result (verdictFields (NoDecoder u))) (z .0) ∙ sym d′)
+
 pub settle-counts : SettleCounts
 settle-counts =
     record {
       works = λ f. works↔same-letter (machineOf f);
       fits = λ f. fits↔fits-after (machineOf f);
       existence = no-decoder-any;
-      no-later = λ o f p p′ before before′ w w′ after after′ l x y.
-          no-later-said o w′ (w .before) (w .after)
-          (least-later (machineOf f) (relationOf o) p p′ (w .before) (w .after) (w′ .before) (w′ .after) l
-          (found o f p before (Least w) after x .says .least) (found o f p′ before′ (Least w′) after′ y .says .least));
+      larger-no-later = larger;
       from-15 = same-with;
       pair = pair-any;
+      existence-from-C = existence-read;
+      larger-no-later-from-C = λ f p p′ before result after given before′ result′ after′ given′ l h h′ e.
+          let e′ = sym (existence-read f p p′ before result after given before′ result′ after′ given′ h h′) ∙ e in
+          larger defaultOrder f p p′ before before′ (windowRead given p) (windowRead given′ p′) after after′ l
+          (window-found f (file-ok f p h) p before result after given h e)
+          (window-found f (file-ok f p′ h′) p′ before′ result′ after′ given′ h′ e′);
+      pair-from-C = pair-read;
     }

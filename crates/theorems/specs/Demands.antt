@@ -100,8 +100,8 @@ pub record Demand1 : Type 0 where
       Judged (givenSearch f p before []) (λ k. (r ≡ search-result.the-variants.Refused k) × (after ≡ before))
       (FoundVerdict o f p r before after)
   pub check :
-      (f : List ℕ) (p : mealy.LoopedPair) (r : CheckResult) → CheckPromise f p r →
-      Judged (givenCheck f p []) (λ k. r ≡ check-result.the-variants.Refused k) (CheckedRight f p r)
+      (f : List ℕ) (q : mealy.LoopedPair) (r : CheckResult) → CheckPromise f q r →
+      Judged (givenCheck f q []) (λ k. r ≡ check-result.the-variants.Refused k) (CheckedRight f q r)
   pub write :
       (n i o : ℕ) (entries before : List ℕ) (r : CountResult) (after : List ℕ) → WritePromise n i o entries before r after →
       Judged (givenWrite n i o entries before []) (λ k. (r ≡ count-result.the-variants.Refused k) × (after ≡ before))
@@ -128,8 +128,8 @@ pub record Demand1 : Type 0 where
       Hosted (refusalOf (givenTable f w before (givenResult result))) r (BothStay before result after result′)
       (BytesGiven (tableSize (outputsOf f) w) (EntryOf f w) before result after result′)
   pub check-from-C :
-      (f : List ℕ) (p : mealy.LoopedPair) (result : List ℕ) (r : ℕ) (result′ : List ℕ) → CheckHosted f p result r result′ →
-      Hosted (refusalOf (givenCheck f p (givenResult result))) r (result′ ≡ result) (JudgementGiven f p result result′)
+      (f : List ℕ) (q : mealy.LoopedPair) (result : List ℕ) (r : ℕ) (result′ : List ℕ) → CheckHosted f q result r result′ →
+      Hosted (refusalOf (givenCheck f q (givenResult result))) r (result′ ≡ result) (JudgementGiven f q result result′)
   pub window-from-C :
       (f : List ℕ) (w : Window) (received result : List ℕ) (r : ℕ) (result′ : List ℕ) →
       WindowHosted f w received result r result′ →
@@ -238,8 +238,8 @@ pub record FromC : Type 0 where
       TableHosted f w before result r after result′ →
       Handed (λ own. TablePromise f w before own after) laidCount result r result′
   pub check :
-      (f : List ℕ) (p : mealy.LoopedPair) (result : List ℕ) (r : ℕ) (result′ : List ℕ) → resultBytes ≤ length result →
-      CheckHosted f p result r result′ → Handed (CheckPromise f p) laidCheck result r result′
+      (f : List ℕ) (q : mealy.LoopedPair) (result : List ℕ) (r : ℕ) (result′ : List ℕ) → resultBytes ≤ length result →
+      CheckHosted f q result r result′ → Handed (CheckPromise f q) laidCheck result r result′
   pub window :
       (f : List ℕ) (w : Window) (received result : List ℕ) (r : ℕ) (result′ : List ℕ) → resultBytes ≤ length result →
       WindowHosted f w received result r result′ → Handed (WindowPromise f w received) laidWindow result r result′

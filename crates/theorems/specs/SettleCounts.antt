@@ -10,6 +10,7 @@ use Rattle.mealy.specs.Answer.{Fits, FitsAfter}
 use Rattle.coder.specs.Limits.{maxSettle}
 use Rattle.coder.specs.File.{fileRefusal, machineOf, settingAfter}
 use Rattle.values.specs.Window as values
+use Rattle.values.specs.Order.{defaultOrder}
 use Rattle.values.specs.declared.Window.{Window}
 use Rattle.values.specs.declared.Order.{Order}
 use Rattle.values.specs.declared.LoopedPair.{LoopedPair}
@@ -18,7 +19,9 @@ use Rattle.search.specs.declared.Verdict.{Verdict}
 use Rattle.search.specs.declared.Verdict.the-variants.{Least, NoDecoder}
 use Rattle.search.specs.declared.SearchResult.{SearchResult}
 use Rattle.search.specs.declared.SearchResult.the-variants.{Refused, Found}
+use Rattle.layout.specs.Layout.{fieldAt}
 use Rattle.lowhenita.specs.Host.{SearchHosted}
+use Rattle.theorems.specs.RoundTrip.{windowRead}
 use Rattle.theorems.specs.Demands.{NoLater}
 use Rattle.theorems.specs.SameAnswers.{SameAnswers, SameAnswersFromC}
 
@@ -52,7 +55,7 @@ pub record SettleCounts : Type 0 where
       (o o′ : Order) (f : List ℕ) (p p′ : ℕ) (before before′ : List ℕ) (v v′ : Verdict) (after after′ : List ℕ) →
       SearchPromise o f p before (Found v) after → SearchPromise o′ f p′ before′ (Found v′) after′ → IsNoDecoder v ↔ IsNoDecoder v′
   -- of two settle counts, the larger gives no later window in the order used
-  pub no-later :
+  pub larger-no-later :
       (o : Order) (f : List ℕ) (p p′ : ℕ) (before before′ : List ℕ) (w w′ : Window) (after after′ : List ℕ) → p ≤ p′ →
       SearchPromise o f p before (Found (Least w)) after → SearchPromise o f p′ before′ (Found (Least w′)) after′ →
       NoLater o w′ (w .before) (w .after)
@@ -64,3 +67,14 @@ pub record SettleCounts : Type 0 where
       (o o′ : Order) (f : List ℕ) (p p′ : ℕ) (before : List ℕ) (q q′ : LoopedPair) (after after′ : List ℕ) →
       SearchPromise o f p before (Found (NoDecoder q)) after → SearchPromise o′ f p′ before (Found (NoDecoder q′)) after′ →
       (q ≡ q′) × (after ≡ after′)
+  -- from C: field 0 says whether there is a window, of which fields 1 and 2 are the sides
+  pub existence-from-C :
+      (f : List ℕ) (p p′ : ℕ) (before result after given before′ result′ after′ given′ : List ℕ) →
+      SearchHosted f p before result 0 after given → SearchHosted f p′ before′ result′ 0 after′ given′ → fieldAt given 0 ≡ fieldAt given′ 0
+  pub larger-no-later-from-C :
+      (f : List ℕ) (p p′ : ℕ) (before result after given before′ result′ after′ given′ : List ℕ) → p ≤ p′ →
+      SearchHosted f p before result 0 after given → SearchHosted f p′ before′ result′ 0 after′ given′ → fieldAt given 0 ≡ 0 →
+      NoLater defaultOrder (windowRead given′ p′) (fieldAt given 1) (fieldAt given 2)
+  pub pair-from-C :
+      (f : List ℕ) (p p′ : ℕ) (before result after given after′ given′ : List ℕ) → SearchHosted f p before result 0 after given →
+      SearchHosted f p′ before result 0 after′ given′ → fieldAt given 0 ≡ 1 → (after ≡ after′) × (given ≡ given′)

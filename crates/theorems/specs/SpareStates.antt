@@ -50,7 +50,7 @@ module _ (f f′ : List ℕ) where
     pub answers : (p : ℕ) → SameAnswers f f′ p p
     -- of pairs that start in states of the first file: those of the second alone it refuses with 7
     pub check :
-        (p : LoopedPair) (r r′ : CheckResult) → ((u : Run) → startOf p u < statesOf f) → CheckPromise f p r → CheckPromise f′ p r′ → r ≡ r′
+        (q : LoopedPair) (r r′ : CheckResult) → ((u : Run) → startOf q u < statesOf f) → CheckPromise f q r → CheckPromise f′ q r′ → r ≡ r′
 
   pub record SameOutcomesFromC : Type 0 where
     pub run :
@@ -62,22 +62,22 @@ module _ (f f′ : List ℕ) where
         SearchHosted f′ p before result r′ after′ given′ → (r ≡ r′) × ((after ≡ after′) × (given ≡ given′))
     pub answers : (p : ℕ) → SameAnswersFromC f f′ p p
     pub check :
-        (p : LoopedPair) (result : List ℕ) (r r′ : ℕ) (given given′ : List ℕ) → ((u : Run) → startOf p u < statesOf f) →
-        CheckHosted f p result r given → CheckHosted f′ p result r′ given′ → (r ≡ r′) × (given ≡ given′)
+        (q : LoopedPair) (result : List ℕ) (r r′ : ℕ) (given given′ : List ℕ) → ((u : Run) → startOf q u < statesOf f) →
+        CheckHosted f q result r given → CheckHosted f′ q result r′ given′ → (r ≡ r′) × (given ≡ given′)
 
 -- The meaning of document 01 alone, with any start state, for windows and letters that fit, with settle count 0, and for pairs.
 pub record AsInDocument01 (f : List ℕ) : Type 0 where
   pub works : (b a : ℕ) → Works (settingAfter f 0) b a ↔ Works (anyState (machineOf f)) b a
   pub least : (o : Order) (b a : ℕ) → Least (relationOf o) (settingAfter f 0) b a ↔ Least (relationOf o) (anyState (machineOf f)) b a
   pub answers : (w : List ℕ) (b : ℕ) (v : Answer) → Answers (settingAfter f 0) w b v ↔ Answers (anyState (machineOf f)) w b v
-  pub valid : (p : LoopedPair) → Valid (settingOf f) p ↔ Valid (anyState (machineOf f)) p
-  pub first : (p : LoopedPair) → First (settingOf f) p ↔ First (anyState (machineOf f)) p
+  pub valid : (q : LoopedPair) → Valid (settingOf f) q ↔ Valid (anyState (machineOf f)) q
+  pub first : (q : LoopedPair) → First (settingOf f) q ↔ First (anyState (machineOf f)) q
 
 pub record SpareStates : Type 0 where
   -- a pair that is not refused, of which one start state or both are not reachable
   pub checked :
-      (f : List ℕ) (p : LoopedPair) (r : CheckResult) (u : Run) → checkRefusal f p true ≡ 0 → CheckPromise f p r →
-      (Reachable (machineOf f) (startOf p u) → ⊥) → r ≡ Checked false
+      (f : List ℕ) (q : LoopedPair) (r : CheckResult) (u : Run) → checkRefusal f q true ≡ 0 → CheckPromise f q r →
+      (Reachable (machineOf f) (startOf q u) → ⊥) → r ≡ Checked false
   -- spare states, whatever their entries, change none of these outcomes
   pub with-spare : (f f′ : List ℕ) → FileWithSpare f f′ → SameOutcomes f f′
   pub with-spare-from-C : (f f′ : List ℕ) → FileWithSpare f f′ → SameOutcomesFromC f f′

@@ -45,8 +45,8 @@ pub data Claim : Type 0 where
   written : ℕ → ℕ → ℕ → List ℕ → Claim
   -- the search in this order reports this window: sides and settle count
   window : Order → ℕ → ℕ → ℕ → Claim
-  -- the search in any order and with any settle count says "no decoder" with the looped pair of three letters that has these start states and bytes, and the checker
-  -- says yes to it
+  -- the search in any order and with any settle count says "no decoder" with the looped pair of three letters that has these start states
+  -- and bytes, and the checker says yes to it
   no-decoder : ℕ → ℕ → List ℕ → Claim
   -- the checker says no to the looped pair of three letters that has these start states and bytes
   not-valid : ℕ → ℕ → List ℕ → Claim

@@ -73,8 +73,8 @@ pub fn table(file: &[u8], w: Window, table: &mut [u8]) -> usize
     let inputs = c.inputs;
     let outputs = c.outputs;
     let rows = rows_by_key(&c.output, states, inputs);
-    let p = w.settle;
-    let starts = start_states(c, p);
+    let ahead = w.settle;
+    let starts = start_states(c, ahead);
     let b = w.before;
     let n = sizes::letters(w);
     let count = size(outputs, n);
