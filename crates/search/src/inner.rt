@@ -60,7 +60,8 @@ pub fn verdict(
         return Verdict::NoDecoder(loops::inner::find::find(c, starts, conflicts, letters));
     }
     let need = least::inner::needs(&worst);
-    Verdict::Least(least::inner::choose(order, settle, &need))
+    let w = least::inner::choose(order, settle, &need);
+    Verdict::Least(w)
 }
 
 // The verdict on a file that is not refused, the window being the least in the order with that settle count.
