@@ -20,6 +20,7 @@ use Rattle.chains.proofs.Entries.{output-keys}
 use Rattle.chains.specs.Rows.{Rowed}
 use Rattle.fitting.specs.Answer.{Right, RightByte, meaning}
 use Rattle.fitting.specs.declared.Answer.{Answer}
+use Rattle.fitting.proofs.Answers.{byte-same}
 use Rattle.filling.specs.Sets.{RowsOf}
 use Rattle.filling.specs.Table.{TableFilled}
 use Rattle.fitting.specs.Tables.{SetsOf, TablesOf}
@@ -65,7 +66,7 @@ module _ {c : Coder} {f : List ℕ} (h : CoderOf c f) where
     pub byte-of : (w : List ℕ) (b : ℕ) {v : ℕ} → RightByte (fromWord c starts) w b v → RightByte (settingAfter f p) w b v
     byte-of w b {v} r =
         subst (λ M. RightByte (afterLetters M p) w b v) (coder-machine (h .is) (accepted f (h .file)))
-        (record { answer = r .answer; right = answers-same (same-word c p s) w b (r .answer) (r .right); byte = r .byte })
+        (byte-same (same-word c p s) w b v r)
 
     pub starts-of : Bounded (fromWord c starts)
     starts-of = word-bounded c p s sound-of
@@ -74,7 +75,7 @@ module _ {c : Coder} {f : List ℕ} (h : CoderOf c f) where
     pub tables-of :
         {successors predecessors letters : List ℕ} → SetsOf c successors predecessors letters →
         TablesOf c (c .next) successors predecessors letters starts
-    tables-of k = record { sound = sound-of; next-is = refl; sets = k; starts-are = starts-of }
+    tables-of k = record { sound = sound-of; next-is = refl; sets = k; starts-low = starts-of }
 
   module _ (w : Window) {starts : ℕ} (s : Holds (settingOfCoder c (w .settle) .Start) starts) where
     -- a string

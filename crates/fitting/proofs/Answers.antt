@@ -7,10 +7,11 @@ use native.Mathlib.Omega.{arith}
 use lib.Count.{leadingZeros}
 use lib.Dec.{eqb}
 use borrow.Author.Tests.{eq-eqb, ne-eqb, eqb-true, eqb-false}
-use Rattle.mealy.specs.Setting.{Setting}
+use Rattle.mealy.specs.Setting.{Setting, Same}
 use Rattle.mealy.specs.Answer as mealy
 use Rattle.mealy.specs.Word.{Holds}
 use Rattle.mealy.proofs.Answers.{answer-unique}
+use Rattle.mealy.proofs.SameSettings.{answers-same}
 use Rattle.mealy.proofs.Words.{shifted, holds-empty, holds-greatest, holds-another, has-alone}
 use Rattle.fitting.specs.Answer.{meaning, Right, RightByte, greatest, answerOf, ByteOf}
 use Rattle.fitting.specs.declared.Answer.{Answer}
@@ -83,3 +84,8 @@ module _ (S : Setting) (w : List ℕ) (b : ℕ) where
 
   pub byte-right : {v : ℕ} → ByteOf (mealy.Fits S w b) v → RightByte S w b v
   byte-right {v} h = rw (h .byte) (right-byte (answerOf (h .word)) (holds-right (h .holds)))
+
+-- the byte of a right answer is that in a setting that says the same
+pub byte-same :
+    {S T : Setting} → Same S T → (w : List ℕ) (b v : ℕ) → RightByte S w b v → RightByte T w b v
+byte-same e w b v r = record { answer = r .answer; right = answers-same e w b (r .answer) (r .right); byte = r .byte }

@@ -199,7 +199,7 @@ module _ {c : Coder} {next successors predecessors letters : List ℕ} {starts :
       (λ x f.
       fitting-within (Successor N) (Leads successors) (λ o. o < 64) from-successor (Entry N) (OnLetter next letters) entry-on w
       (all (Successor N) (Leads successors) from-successor w l) b x (λ s h. h)
-      (fits-fitting S (k .sound .next-state) (k .starts-are) w b x f))
+      (fits-fitting S (k .sound .next-state) (k .starts-low) w b x f))
     where
       all :
           (R R′ : Transitions) (f : (o s t : ℕ) → o < 64 → R o s t → R′ o s t) (w : List ℕ) → Letters 64 w → All R R′ (λ o. o < 64) f w

@@ -92,7 +92,7 @@ pub record TablesOf (c : Coder) (next successors predecessors letters : List ℕ
   pub sound : Sound c
   pub next-is : next ≡ c .next
   pub sets : SetsOf c successors predecessors letters
-  pub starts-are : Bounded (fromWord c starts)
+  pub starts-low : Bounded (fromWord c starts)
 
 -- they are those of some coder
 pub record Tables (next successors predecessors letters : List ℕ) (starts : ℕ) : Type 0 where

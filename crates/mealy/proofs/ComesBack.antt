@@ -10,7 +10,7 @@ use lib.ListN.{length, getD, take, drop, length-drop}
 use lib.Seq.{length-take-le, getD-take, getD-drop}
 use Rattle.mealy.specs.Machine.{Machine, outs, end, Letters}
 use Rattle.mealy.specs.Setting.{Setting, Closed}
-use Rattle.mealy.specs.Window.{Works}
+use Rattle.mealy.specs.Window.{EqualOutputs, Works}
 use Rattle.mealy.specs.Answer.{letter, Answers}
 use Rattle.mealy.proofs.Answers.{length-outs}
 
@@ -35,6 +35,20 @@ pub letters-drop : (n k : ℕ) (xs : List ℕ) → Letters n xs → Letters n (d
 letters-drop n zero xs l = l
 letters-drop n (suc k) [] l = tt
 letters-drop n (suc k) (x ∷ xs) l = letters-drop n k xs (l .1)
+
+-- two runs of d + n letters whose outputs agree from place d on, without their first d letters
+pub equal-from :
+    (M : Machine) (d n s t : ℕ) (xs ys : List ℕ) → Letters (M .inputs) xs → Letters (M .inputs) ys → length xs ≡ d + n → length ys ≡ d + n →
+    drop d (outs M s xs) ≡ drop d (outs M t ys) →
+    EqualOutputs M n (end M s (take d xs)) (end M t (take d ys)) (drop d xs) (drop d ys)
+equal-from M d n s t xs ys l l′ e e′ o =
+    record {
+      letters₁ = letters-drop (M .inputs) d xs l;
+      letters₂ = letters-drop (M .inputs) d ys l′;
+      length₁ = length-drop d xs ∙ omega arith;
+      length₂ = length-drop d ys ∙ omega arith;
+      outputs = sym (drop-outs M s d xs) ∙ o ∙ drop-outs M t d ys;
+    }
 
 pub end-start : (S : Setting) → Closed S → (s : ℕ) (xs : List ℕ) → S .Start s → Letters (S .M .inputs) xs → S .Start (end (S .M) s xs)
 end-start S closed s [] p l = p

@@ -1,33 +1,20 @@
 -- Windows of different settle counts: the letters of the settle count can be read as letters before; so existence is the same for every
 -- count, a larger count never gives a later window, and from N - 1 on nothing changes.
-use mathlib.Core.Path.{_≡_, sym, ap, _∙_}
+use mathlib.Core.Path.{_≡_, ap, _∙_}
 use mathlib.Core.Logic.{_≢_}
 use mathlib.Core.List.{List}
 use Prim.Native.Nat.{ℕ, suc, _+_, _≤_, _<_}
 use native.Mathlib.Omega.{arith}
-use lib.ListN.{length, take, drop, length-drop}
+use lib.ListN.{length, take, drop}
 use lib.Seq.{length-take-le, getD-drop}
 use Rattle.mealy.specs.Machine.{Machine, end, Letters, Total}
 use Rattle.mealy.specs.Reachable.{StartAfter}
 use Rattle.mealy.specs.Setting.{Same, afterLetters}
-use Rattle.mealy.specs.Window.{EqualOutputs, Works}
+use Rattle.mealy.specs.Window.{Works}
 use Rattle.mealy.specs.Order.{Relation, Least}
-use Rattle.mealy.proofs.ComesBack.{drop-outs, letters-take, letters-drop}
+use Rattle.mealy.proofs.ComesBack.{letters-take, equal-from}
 use Rattle.mealy.proofs.SameSettings.{same-starts}
 use Rattle.mealy.proofs.StartStates.{start-along, start-down, after-closed, start-unchanged}
-
--- two runs with equal outputs, without their first d letters
-equal-drop :
-    (M : Machine) (d n m s t : ℕ) (xs ys : List ℕ) → d + n ≡ m → EqualOutputs M m s t xs ys →
-    EqualOutputs M n (end M s (take d xs)) (end M t (take d ys)) (drop d xs) (drop d ys)
-equal-drop M d n m s t xs ys e w =
-    record {
-      letters₁ = letters-drop (M .inputs) d xs (w .letters₁);
-      letters₂ = letters-drop (M .inputs) d ys (w .letters₂);
-      length₁ = length-drop d xs ∙ omega (arith, w .length₁);
-      length₂ = length-drop d ys ∙ omega (arith, w .length₂);
-      outputs = sym (drop-outs M s d xs) ∙ ap (drop d) (w .outputs) ∙ drop-outs M t d ys;
-    }
 
 module _ (M : Machine) where
   -- of the settle count p, d letters can be letters before instead
@@ -35,7 +22,8 @@ module _ (M : Machine) where
   works-trade p q d b a l f s t xs ys h g w c =
       f (end M s (take d xs)) (end M t (take d ys)) (drop d xs) (drop d ys)
       (later s xs h (w .letters₁) (w .length₁)) (later t ys g (w .letters₂) (w .length₂))
-      (equal-drop M d (b + 1 + a) (d + b + 1 + a) s t xs ys (omega arith) w)
+      (equal-from M d (b + 1 + a) s t xs ys (w .letters₁) (w .letters₂) (w .length₁ ∙ omega arith) (w .length₂ ∙ omega arith)
+      (ap (drop d) (w .outputs)))
       (rw (getD-drop d xs b 0, getD-drop d ys b 0) c)
     where
       later :

@@ -134,7 +134,7 @@ module _ (M : Machine) where
       rw e at (start-down (suc p) (p + length ys) (end M s ys) (omega arith) h)
 
   -- where one letter more changes nothing, no further letter does
-  pub start-keeps :
+  start-keeps :
       (K : ℕ) → ((s : ℕ) → StartAfter M K s → StartAfter M (suc K) s) → (k : ℕ) → K ≤ k → (s : ℕ) → StartAfter M k s →
       StartAfter M (suc k) s
   start-keeps K settled =

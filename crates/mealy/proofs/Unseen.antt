@@ -12,7 +12,7 @@ use Rattle.mealy.specs.Reachable.{Reachable, StartAfter}
 use Rattle.mealy.specs.Setting.{afterLetters}
 use Rattle.mealy.specs.Window.{Works, SameLetter}
 use Rattle.mealy.specs.Answer.{Fits, FitsAfter}
-use Rattle.mealy.proofs.ComesBack.{drop-outs, letters-drop}
+use Rattle.mealy.proofs.ComesBack.{drop-outs, letters-drop, equal-from}
 use Rattle.mealy.proofs.ReachableStates.{letters-both}
 use Rattle.mealy.proofs.StartStates.{start-take}
 
@@ -49,13 +49,7 @@ module _ (M : Machine) where
           absurd
           (f (end M s (take p xs)) (end M t (take p ys)) (drop p xs) (drop p ys)
           (start-take M p p s xs (omega arith) (omega arith) r l) (start-take M p p t ys (omega arith) (omega arith) r′ l′)
-          (record {
-            letters₁ = letters-drop (M .inputs) p xs l;
-            letters₂ = letters-drop (M .inputs) p ys l′;
-            length₁ = length-drop p xs ∙ omega arith;
-            length₂ = length-drop p ys ∙ omega arith;
-            outputs = sym (drop-outs M s p xs) ∙ e ∙ drop-outs M t p ys;
-          })
+          (equal-from M p (b + 1 + a) s t xs ys l l′ n n′ e)
           (rw (getD-drop p xs b 0, getD-drop p ys b 0) z))
     ]),
     (λ f s t xs ys h g w c.

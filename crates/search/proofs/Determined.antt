@@ -137,7 +137,7 @@ pair-short o f p before q after h =
 window-same : (w w′ : Window) → w .before ≡ w′ .before → w .after ≡ w′ .after → w .settle ≡ w′ .settle → w ≡ w′
 window-same w w′ e d c = let z : window (w .before) (w .after) (w .settle) ≡ w′ = rw (e, d, c) in z
 
-pub verdict-determined :
+verdict-determined :
     {R : Relation} → IsOrder R → (S P : Setting) (p : ℕ) (before : List ℕ) (v v′ : Verdict) (after after′ : List ℕ) →
     Says R S P p v before after → Says R S P p v′ before after′ → (v ≡ v′) × (after ≡ after′)
 verdict-determined order S P p before (Least w) (Least w′) after after′ x y =

@@ -19,7 +19,8 @@ use Rattle.values.specs.Window.{window, size}
 use Rattle.values.specs.Order.{relationOf, defaultOrder}
 use Rattle.values.specs.declared.Order.{Order}
 use Rattle.values.specs.declared.CountResult.{CountResult}
-use Rattle.fitting.specs.Answer.{meaning, RightByte}
+use Rattle.fitting.specs.Answer.{meaning}
+use Rattle.fitting.proofs.Answers.{byte-same}
 use Rattle.search.specs.Search.{searchRefusal, wanted, SaysOf, FoundVerdict, RefusedSearch, SearchPromise}
 use Rattle.search.specs.declared.Verdict.{Verdict}
 use Rattle.search.specs.declared.Verdict.the-variants.{Least, NoDecoder}
@@ -114,11 +115,8 @@ module _ {f f′ : List ℕ} {p p′ : ℕ} (h : Alike f f′ p p′) where
 
   -- ---- the answers
 
-  byte-alike : (w : List ℕ) (b v : ℕ) → RightByte (settingAfter f p) w b v → RightByte (settingAfter f′ p′) w b v
-  byte-alike w b v r = record { answer = r .answer; right = answers-same (h .windows) w b (r .answer) (r .right); byte = r .byte }
-
   entry-alike : (b a k v : ℕ) → EntryOf f (window b a p) k v → EntryOf f′ (window b a p′) k v
-  entry-alike b a k v r = byte-alike (windowAt (outputsOf f′) (size (window b a p′)) k) b v (rw (h .outputs) at r)
+  entry-alike b a k v r = byte-same (h .windows) (windowAt (outputsOf f′) (size (window b a p′)) k) b v (rw (h .outputs) at r)
 
   -- ---- the verdict
 
@@ -196,7 +194,7 @@ module _ {f f′ : List ℕ} {p p′ : ℕ} (h : Alike f f′ p p′) where
             y;
         string = λ b a received before r r′ after after′ x y.
             decoder.string-determined f′ (window b a p′) received before r r′ after after′
-            (count-map (string-number b a received _) refl (λ k v. byte-alike (take (size (window b a p)) (drop k received)) b v) x) y;
+            (count-map (string-number b a received _) refl (λ k v. byte-same (h .windows) (take (size (window b a p)) (drop k received)) b v) x) y;
         table = λ b a before r r′ after after′ x y.
             decoder.table-determined f′ (window b a p′) before r r′ after after′
             (count-map (table-number-in b a _ true) (table-size b a) (entry-alike b a) x) y;
@@ -208,12 +206,12 @@ module _ {f f′ : List ℕ} {p p′ : ℕ} (h : Alike f f′ p p′) where
         window = λ b a received result r r′ given given′ x y.
             host.window-determined f′ (window b a p′) received result given given′ r r′
             (hosted-map (window-number b a received _)
-            (λ z g. record { byte = g .byte; right = byte-alike received b (g .byte) (g .right); fields = g .fields }) x)
+            (λ z g. record { byte = g .byte; right = byte-same (h .windows) received b (g .byte) (g .right); fields = g .fields }) x)
             y;
         string = λ b a received before result r r′ after after′ given given′ x y.
             host.decode-determined f′ (window b a p′) received before result r r′ after after′ given given′
             (hosted-map (string-number b a received _)
-            (λ z. bytes-map refl (λ k v. byte-alike (take (size (window b a p)) (drop k received)) b v)) x)
+            (λ z. bytes-map refl (λ k v. byte-same (h .windows) (take (size (window b a p)) (drop k received)) b v)) x)
             y;
         table = λ b a before result r r′ after after′ given given′ x y.
             host.table-determined f′ (window b a p′) before result r r′ after after′ given given′

@@ -34,6 +34,15 @@ pub first-read :
 first-read result l n ns d small p q =
     (p ∙ ap (λ (x : Laid). x .returned) d, rw (q, d) (field-at result (n ∷ ns) 0 (omega arith) small))
 
+-- field 0 of a verdict
+abbrev pub kind : Verdict → ℕ
+kind (Least w) = 0
+kind (NoDecoder q) = 1
+
+pub kind-read : (result : List ℕ) (v : Verdict) → fieldAt (withFields result (verdictFields v)) 0 ≡ kind v
+kind-read result (Least w) = field-at result (verdictFields (Least w)) 0 (lit< tt) (lit< tt)
+kind-read result (NoDecoder q) = field-at result (verdictFields (NoDecoder q)) 0 (lit< tt) (lit< tt)
+
 module _ (f : List ℕ) (file-ok : fileRefusal f ≡ 0) where
   high : pairs (machineOf f .states) ≤ maxSide
   high = rw (states-are f) (pairs-high (statesOf f) (accepted f file-ok .entries .limits .states-high))
@@ -49,7 +58,7 @@ module _ (f : List ℕ) (file-ok : fileRefusal f ≡ 0) where
       let a = field-at result ns 2 (lit< tt) (omega (arith, h .after-small, high)) in
       ap (λ (n : ℕ). Least (window (w .before) (w .after) n)) (h .settle) ∙ ap Least (sym (ap₂ (λ (x y : ℕ). window x y p) b a))
   window-read p letters letters′ result (NoDecoder q) g e =
-      let z = field-at result (verdictFields (NoDecoder q)) 0 (lit< tt) (lit< tt) in
+      let z = kind-read result (NoDecoder q) in
       absurd (omega arith)
 
   pub window-found :

@@ -4,7 +4,6 @@ use mathlib.Core.Logic.{_↔_}
 use mathlib.Core.List.{List}
 use Prim.Native.Nat.{ℕ, _≤_}
 use native.Mathlib.Omega.{arith}
-use lib.Dec.{lit<}
 use borrow.Author.Tests.{le-leb}
 use Rattle.mealy.specs.Setting.{Same}
 use Rattle.mealy.proofs.Unseen.{works↔same-letter, fits↔fits-after}
@@ -24,14 +23,13 @@ use Rattle.search.specs.declared.SearchResult.the-variants.{Found}
 use Rattle.search.proofs.Files.{search-accepted}
 use Rattle.search.proofs.Determined.{found, no-decoder-any, pair-any}
 use Rattle.layout.specs.Layout.{withFields, verdictFields, fieldAt}
-use Rattle.layout.proofs.Reading.{field-at}
 use Rattle.lowhenita.specs.Host.{SearchHosted}
 use Rattle.lowhenita.proofs.Handing.{accepted-search}
 use Rattle.theorems.specs.Demands.{NoLater}
 use Rattle.theorems.specs.Handed.{FoundFromC}
 use Rattle.theorems.specs.RoundTrip.{windowRead}
 use Rattle.theorems.proofs.Handing.{search-found}
-use Rattle.theorems.proofs.HostRoundTrip.{window-found}
+use Rattle.theorems.proofs.HostRoundTrip.{kind, kind-read, window-found}
 use Rattle.theorems.specs.SettleCounts.{SameWith, SettleCounts}
 use Rattle.theorems.proofs.Demands.{no-later-said}
 use Rattle.theorems.proofs.Alike.{Alike, search-alike, search-alike-from-C, answers-alike, answers-alike-from-C}
@@ -76,15 +74,6 @@ larger o f p p′ before before′ w w′ after after′ l x y =
     (found o f p before (Least w) after x .says .least) (found o f p′ before′ (Least w′) after′ y .says .least))
 
 -- ---- from C
-
--- field 0 of a verdict
-abbrev kind : Verdict → ℕ
-kind (Least w) = 0
-kind (NoDecoder q) = 1
-
-kind-read : (result : List ℕ) (v : Verdict) → fieldAt (withFields result (verdictFields v)) 0 ≡ kind v
-kind-read result (Least w) = field-at result (verdictFields (Least w)) 0 (lit< tt) (lit< tt)
-kind-read result (NoDecoder q) = field-at result (verdictFields (NoDecoder q)) 0 (lit< tt) (lit< tt)
 
 same-kind : (v v′ : Verdict) → IsNoDecoder v ↔ IsNoDecoder v′ → kind v ≡ kind v′
 same-kind (Least w) (Least w′) e = refl
