@@ -10,6 +10,8 @@
  * is bytes 8 k to 8 k + 7. `result` has at least LOWHENITA_RESULT_BYTES bytes, or the call is refused with 11. Bytes past what a call
  * writes, in `result` and in any other buffer, stay as they were.
  *
+ * The entries of a coder, those of spare states included, put out every letter below O: one with a letter left over is refused with 15.
+ *
  * State 0 is the power-on state. The runs that windows, tables, decoded letters and looped pairs go by start in the states that some
  * input string reaches from state 0, the empty string included; the other states are spare and do not count. lowhenita_run starts in any
  * state.
@@ -41,7 +43,7 @@ extern "C" {
 #endif
 
 /* The version of this header and of the library; make and pkg-config take it from here. */
-#define LOWHENITA_VERSION "1.6"
+#define LOWHENITA_VERSION "1.7"
 
 /* Limits of a coder: states, input letters, output letters; the bytes of its file. */
 #define LOWHENITA_MAX_STATES 16
@@ -76,6 +78,7 @@ extern "C" {
 #define LOWHENITA_REFUSED_COUNTS 4
 #define LOWHENITA_REFUSED_COUNT_FIELD 5
 #define LOWHENITA_REFUSED_ENTRY 6
+#define LOWHENITA_REFUSED_UNUSED_OUTPUT 15
 #define LOWHENITA_REFUSED_START_STATE 7
 #define LOWHENITA_REFUSED_WINDOW_SIDE 8
 #define LOWHENITA_REFUSED_SETTLE_COUNT 14
@@ -103,6 +106,8 @@ static inline const char *lowhenita_refusal_text(size_t number)
         return "The count field is not 3 + 2 * N * I, or there are not 2 * N * I entry bytes to be written.";
     case LOWHENITA_REFUSED_ENTRY:
         return "An entry leads to a state that there is not, or puts out a letter that there is not.";
+    case LOWHENITA_REFUSED_UNUSED_OUTPUT:
+        return "Some letter below O is put out by no entry.";
     case LOWHENITA_REFUSED_START_STATE:
         return "There is no such start state.";
     case LOWHENITA_REFUSED_WINDOW_SIDE:
@@ -139,7 +144,7 @@ static inline uint64_t lowhenita_field(const uint8_t *result, size_t k)
  * Runs the coder from state `start`, reachable or not, on the letters of `input`: one output letter for each input letter, at the front
  * of `output`.
  * Field 0: the number of letters written. Field 1: the state in which the run ends.
- * Refusals, in checking order: 1 to 6, 7, 11 (output shorter than input, or result), 12.
+ * Refusals, in checking order: 1 to 6, 15, 7, 11 (output shorter than input, or result), 12.
  */
 size_t lowhenita_run(const uint8_t *file, size_t file_len,
                      size_t start,
@@ -157,7 +162,7 @@ size_t lowhenita_run(const uint8_t *file, size_t file_len,
  * forward loop; the pair's letters stand at the front of `letters`, two bytes each (first run, second run), the differing letter
  * between lead-in and lead-out. Of all valid pairs, of any length, it is the one with fewest letters; of several with as few the first by
  * s, t, the four lengths in this order, and the bytes of the letters. It is valid (lowhenita_check says 1).
- * Refusals, in checking order: 1 to 6, 14, 11 (letters shorter than LOWHENITA_SEARCH_BYTES, or result).
+ * Refusals, in checking order: 1 to 6, 15, 14, 11 (letters shorter than LOWHENITA_SEARCH_BYTES, or result).
  */
 size_t lowhenita_search(const uint8_t *file, size_t file_len,
                         size_t settle,
@@ -171,7 +176,7 @@ size_t lowhenita_search(const uint8_t *file, size_t file_len,
  * that a run from a reachable state was given come back at the places that have a full window and `settle` letters ahead of it: bytes
  * settle and on. The bytes before these are decoded in the same way, and nothing more is promised of them.
  * Field 0: the number of bytes written, received_len - before - after, or 0 where the string is shorter than one window.
- * Refusals, in checking order: 1 to 6, 8, 14, 11 (output too short, or result), 13.
+ * Refusals, in checking order: 1 to 6, 15, 8, 14, 11 (output too short, or result), 13.
  */
 size_t lowhenita_decode(const uint8_t *file, size_t file_len,
                         size_t before, size_t after, size_t settle,
@@ -182,7 +187,7 @@ size_t lowhenita_decode(const uint8_t *file, size_t file_len,
 /*
  * Judges a looped pair from anyone: start states s and t, four lengths, and in `letters` two bytes for each letter.
  * Field 0: 1 for a valid pair, 0 for any other. A pair of which s or t is a spare state is not valid. A pair has no settle count.
- * Refusals, in checking order: 1 to 6, 7, 9 (letters_len is not twice the letters), 11 (result), 12.
+ * Refusals, in checking order: 1 to 6, 15, 7, 9 (letters_len is not twice the letters), 11 (result), 12.
  */
 size_t lowhenita_check(const uint8_t *file, size_t file_len,
                        size_t s, size_t t,
@@ -194,7 +199,7 @@ size_t lowhenita_check(const uint8_t *file, size_t file_len,
 /*
  * Decodes one window of before + 1 + after received letters; the `settle` letters ahead of it are not given.
  * Field 0: the letter that alone fits, LOWHENITA_NONE or LOWHENITA_SEVERAL.
- * Refusals, in checking order: 1 to 6, 8, 14, 9 (received_len is not before + 1 + after), 11 (result), 13.
+ * Refusals, in checking order: 1 to 6, 15, 8, 14, 9 (received_len is not before + 1 + after), 11 (result), 13.
  */
 size_t lowhenita_window(const uint8_t *file, size_t file_len,
                         size_t before, size_t after, size_t settle,
@@ -205,7 +210,7 @@ size_t lowhenita_window(const uint8_t *file, size_t file_len,
  * Fills the decoder table of a window: one byte for each window of before + 1 + after letters, at its index, whose highest digit to
  * base O is the window's first letter.
  * Field 0: the table's size, O to the power before + 1 + after, whatever the settle count.
- * Refusals, in checking order: 1 to 6, 8, 14, 10 (more than LOWHENITA_MAX_TABLE_BYTES), 11 (table too short, or result).
+ * Refusals, in checking order: 1 to 6, 15, 8, 14, 10 (more than LOWHENITA_MAX_TABLE_BYTES), 11 (table too short, or result).
  * Number 10 by cases: the longest window has any number of letters for O = 1; 16 for 2; 10 for 3; 8 for 4; 6 for 5 and 6; 5 for 7 to 9;
  * 4 for 10 to 16; 3 for 17 to 40; 2 for 41 to 64.
  */
@@ -219,7 +224,7 @@ size_t lowhenita_table(const uint8_t *file, size_t file_len,
  * of state 0 first, in the order of the input letters. The file goes to the front of `file`; LOWHENITA_MAX_FILE_BYTES are enough for
  * any. It is the one file of these counts and entries: of any accepted file, bytes 3 to 5 and those from byte 6 on give that file.
  * Field 0: the number of bytes written, 6 + entries_len.
- * Refusals, in checking order: 4, 5 (entries_len is not 2 * states * inputs), 6, 11 (file too short, or result).
+ * Refusals, in checking order: 4, 5 (entries_len is not 2 * states * inputs), 6, 15, 11 (file too short, or result).
  */
 size_t lowhenita_write(size_t states, size_t inputs, size_t outputs,
                        const uint8_t *entries, size_t entries_len,

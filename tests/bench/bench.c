@@ -235,22 +235,26 @@ static void bench_write(const char *name)
     compare(name, do_write, do_plain_write, 0);
 }
 
-/* Entries at random: next states and output letters all equally likely. */
-static void any_coder(size_t states, size_t inputs, size_t outputs)
+/* Entries at random: next states and output letters all equally likely. The letters are then renumbered: O is how many
+   of those `outputs` the entries name. */
+static void drawn_coder(size_t states, size_t inputs, size_t outputs)
 {
-    size_t k, count = 3 + 2 * states * inputs;
+    size_t k;
 
-    file.len = 3 + count;
-    file.bytes[0] = 1;
-    file.bytes[1] = (uint8_t)(count >> 8);
-    file.bytes[2] = (uint8_t)count;
-    file.bytes[3] = (uint8_t)states;
-    file.bytes[4] = (uint8_t)inputs;
-    file.bytes[5] = (uint8_t)outputs;
+    begin_file(&file, states, inputs, outputs);
     for (k = 6; k < file.len; k += 2) {
         file.bytes[k] = (uint8_t)random_below(states);
         file.bytes[k + 1] = (uint8_t)random_below(outputs);
     }
+    renumber_letters(&file);
+}
+
+/* The same, until the entries name all letters. */
+static void any_coder(size_t states, size_t inputs, size_t outputs)
+{
+    do
+        drawn_coder(states, inputs, outputs);
+    while (file.bytes[5] < outputs);
 }
 
 /* Random coders without a decoder: the mean time of a search, each the least of several, and the longest
@@ -331,8 +335,8 @@ int main(void)
         bench_search(name);
     }
     for (n = 4; n <= 16; n += 4) {
-        any_coder(16, n, 64);
-        sprintf(name, "search: random, 16 states, %lu inputs, 64 outputs", (unsigned long)n);
+        drawn_coder(16, n, 64);
+        sprintf(name, "search: random, 16 states, %lu inputs, %d outputs", (unsigned long)n, file.bytes[5]);
         bench_search(name);
     }
     make_forward_chain(&file, 16, 14);

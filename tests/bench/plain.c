@@ -10,9 +10,16 @@ typedef struct coder {
     uint8_t next[256], out[256]; /* state * 16 + input */
 } coder;
 
+/* Whether a set of letters is all those below `outputs`. */
+static int all_letters(uint64_t named, size_t outputs)
+{
+    return named == UINT64_MAX >> (64 - outputs);
+}
+
 static size_t read_coder(const uint8_t *f, size_t len, coder *c)
 {
     size_t s, i, n;
+    uint64_t named = 0;
 
     if (len < 6)
         return 1;
@@ -35,8 +42,9 @@ static size_t read_coder(const uint8_t *f, size_t len, coder *c)
                 return 6;
             c->next[16 * s + i] = f[0];
             c->out[16 * s + i] = f[1];
+            named |= (uint64_t)1 << f[1];
         }
-    return 0;
+    return all_letters(named, c->outputs) ? 0 : 15;
 }
 
 static int below(const uint8_t *bytes, size_t n, size_t limit)
@@ -78,14 +86,19 @@ size_t plain_write(size_t states, size_t inputs, size_t outputs, const uint8_t *
                    size_t entries_len, uint8_t *file, size_t file_len, size_t *count)
 {
     size_t k;
+    uint64_t named = 0;
 
     if (states < 1 || states > 16 || inputs < 1 || inputs > 16 || outputs < 1 || outputs > 64)
         return 4;
     if (entries_len != 2 * states * inputs)
         return 5;
-    for (k = 0; k < entries_len; k += 2)
+    for (k = 0; k < entries_len; k += 2) {
         if (entries[k] >= states || entries[k + 1] >= outputs)
             return 6;
+        named |= (uint64_t)1 << entries[k + 1];
+    }
+    if (!all_letters(named, outputs))
+        return 15;
     if (file_len < 6 + entries_len)
         return 11;
     file[0] = 1;

@@ -6,7 +6,7 @@
 #include <stdio.h>
 #include <string.h>
 
-enum { REFUSALS = 14 };
+enum { REFUSALS = 15 };
 
 /* Running parity: 2 states, 2 input letters, 2 output letters. */
 static const uint8_t parity[] = {1, 0, 11, 2, 2, 2, 0, 0, 1, 1, 1, 1, 0, 0};
@@ -82,6 +82,7 @@ static void writing(void)
     expect_refusal(write_changed(2 + ((size_t)1 << 32), n - 6, n), LOWHENITA_REFUSED_COUNTS);
     expect_refusal(write_changed(2, n - 7, n), LOWHENITA_REFUSED_COUNT_FIELD);
     expect_refusal(lowhenita_write(2, 2, 1, parity + 6, n - 6, written, n, result, sizeof result), LOWHENITA_REFUSED_ENTRY);
+    expect_refusal(lowhenita_write(2, 2, 3, parity + 6, n - 6, written, n, result, sizeof result), LOWHENITA_REFUSED_UNUSED_OUTPUT);
     expect_refusal(write_changed(2, n - 6, n - 1), LOWHENITA_REFUSED_SHORT_BUFFER);
 }
 
@@ -107,6 +108,24 @@ static void refusals(void)
     expect_refusal(lowhenita_search(parity, n, 0, letters, sizeof letters, result, sizeof result - 1), LOWHENITA_REFUSED_SHORT_BUFFER);
     expect_refusal(lowhenita_run(parity, n, 0, two, 2, bytes, 2, result, sizeof result), LOWHENITA_REFUSED_INPUT_LETTER);
     expect_refusal(lowhenita_decode(parity, n, 0, 0, 0, two, 2, bytes, 2, result, sizeof result), LOWHENITA_REFUSED_RECEIVED_LETTER);
+}
+
+/* A letter more than the entries put out, in the calls that take a file; it comes before all that concerns the other arguments. */
+static void unused_outputs(void)
+{
+    static const uint8_t two[] = {2, 2};
+    const size_t n = sizeof parity;
+
+    expect_refusal(search_changed(5, 3, n), LOWHENITA_REFUSED_UNUSED_OUTPUT);
+    expect_refusal(search_changed(5, LOWHENITA_MAX_OUTPUTS, n), LOWHENITA_REFUSED_UNUSED_OUTPUT);
+    expect_refusal(search_changed(5, LOWHENITA_MAX_OUTPUTS + 1, n), LOWHENITA_REFUSED_COUNTS);
+    search_changed(5, 3, n);
+    expect_refusal(lowhenita_run(file, n, 2, two, 2, bytes, 0, result, 0), LOWHENITA_REFUSED_UNUSED_OUTPUT);
+    expect_refusal(lowhenita_search(file, n, 65, letters, 0, result, 0), LOWHENITA_REFUSED_UNUSED_OUTPUT);
+    expect_refusal(lowhenita_decode(file, n, 137, 0, 65, two, 2, bytes, 0, result, 0), LOWHENITA_REFUSED_UNUSED_OUTPUT);
+    expect_refusal(lowhenita_check(file, n, 2, 2, 1, 0, 0, 1, two, 2, result, 0), LOWHENITA_REFUSED_UNUSED_OUTPUT);
+    expect_refusal(lowhenita_window(file, n, 137, 0, 65, two, 2, result, 0), LOWHENITA_REFUSED_UNUSED_OUTPUT);
+    expect_refusal(lowhenita_table(file, n, 137, 0, 65, bytes, 0, result, 0), LOWHENITA_REFUSED_UNUSED_OUTPUT);
 }
 
 /* The four calls that take a settle count: the largest, and one above it, which comes before a wrong number of letters and short buffers
@@ -140,6 +159,7 @@ static void rows(void)
     ROW(COUNTS);
     ROW(COUNT_FIELD);
     ROW(ENTRY);
+    ROW(UNUSED_OUTPUT);
     ROW(START_STATE);
     ROW(WINDOW_SIDE);
     ROW(SETTLE_COUNT);
@@ -160,6 +180,7 @@ int main(int argc, char **argv)
     fields();
     texts();
     refusals();
+    unused_outputs();
     settle_counts();
     writing();
     printf("%lu passed, %lu failed\n", passed, failed);

@@ -141,6 +141,9 @@ static void writing(void)
     HOLDS(lowhenita_field(result, 0) == 14);
     HOLDS(lowhenita_write(2, 2, 2, entries, 8, file, 13, result, 64) == LOWHENITA_REFUSED_SHORT_BUFFER);
     HOLDS(lowhenita_write(2, 2, 2, entries, 7, file, 13, result, 64) == LOWHENITA_REFUSED_COUNT_FIELD);
+    HOLDS(lowhenita_write(2, 2, 3, entries, 8, file, sizeof file, result, 64) == LOWHENITA_REFUSED_UNUSED_OUTPUT);
+    HOLDS(lowhenita_write(2, 2, 3, entries, 8, file, 0, result, 0) == LOWHENITA_REFUSED_UNUSED_OUTPUT);
+    HOLDS(lowhenita_write(2, 2, 65, entries, 8, file, sizeof file, result, 64) == LOWHENITA_REFUSED_COUNTS);
     HOLDS(lowhenita_write(g[3], g[4], g[5], g + 6, sizeof g - 6, file, sizeof file, result, 64) == 0);
     HOLDS(lowhenita_field(result, 0) == sizeof g && memcmp(file, g, sizeof g) == 0);
 }

@@ -169,6 +169,14 @@ void text_reader(const size_t counts[3], const uint8_t *entries, size_t len)
     count_case();
 }
 
+void text_reader_refused(size_t number)
+{
+    put("counts = refused %zu\n", number);
+    count_case();
+    put("entries = bytes -\n");
+    count_case();
+}
+
 static void put_writer(const size_t counts[3], const uint8_t *entries, size_t len, size_t lent)
 {
     put("write %zu %zu %zu on", counts[0], counts[1], counts[2]);

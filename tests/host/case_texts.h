@@ -23,6 +23,9 @@ void text_answer(enum order order, size_t settle, size_t lent, const least *wind
 /* The reader's two calls on the file, which is accepted: these counts and entries. */
 void text_reader(const size_t counts[3], const uint8_t *entries, size_t len);
 
+/* The same on a file that is refused: this number, and no entries. */
+void text_reader_refused(size_t number);
+
 /* The writer on these counts and entries, lent so many bytes: the file. */
 void text_writer(const size_t counts[3], const uint8_t *entries, size_t len, size_t lent,
                  const uint8_t *file, size_t file_len);

@@ -27,7 +27,7 @@ size_t random_below(size_t limit)
 
 /* ---- files ---- */
 
-static void begin_file(coder_file *f, size_t states, size_t inputs, size_t outputs)
+void begin_file(coder_file *f, size_t states, size_t inputs, size_t outputs)
 {
     size_t count = 3 + 2 * states * inputs;
 
@@ -47,6 +47,21 @@ static void put_entry(coder_file *f, size_t state, size_t input, size_t next, si
 
     f->bytes[at] = (uint8_t)next;
     f->bytes[at + 1] = (uint8_t)output;
+}
+
+void renumber_letters(coder_file *f)
+{
+    uint8_t named[256] = {0}, number[256];
+    size_t k, count = 0;
+
+    for (k = 7; k < f->len; k += 2)
+        named[f->bytes[k]] = 1;
+    for (k = 0; k < 256; k++)
+        if (named[k])
+            number[k] = (uint8_t)count++;
+    for (k = 7; k < f->len; k += 2)
+        f->bytes[k] = number[f->bytes[k]];
+    f->bytes[5] = (uint8_t)count;
 }
 
 /* ---- examples ---- */
@@ -99,7 +114,7 @@ size_t coders_with(size_t states, size_t inputs, size_t outputs)
     return count;
 }
 
-void make_numbered(coder_file *f, size_t states, size_t inputs, size_t outputs, size_t number)
+void number_entries(coder_file *f, size_t states, size_t inputs, size_t outputs, size_t number)
 {
     size_t k;
 
@@ -108,6 +123,12 @@ void make_numbered(coder_file *f, size_t states, size_t inputs, size_t outputs, 
         put_entry(f, k / inputs, k % inputs, number % states, number / states % outputs);
         number /= states * outputs;
     }
+}
+
+void make_numbered(coder_file *f, size_t states, size_t inputs, size_t outputs, size_t number)
+{
+    number_entries(f, states, inputs, outputs, number);
+    renumber_letters(f);
 }
 
 /* ---- random coders ---- */
@@ -149,7 +170,12 @@ static void running_sum(coder_file *f)
             put_entry(f, s, i, (s * factor + i) % states, (s + i) % outputs);
 }
 
-void make_random(coder_file *f, size_t states, size_t inputs, size_t outputs)
+static void draw_entry(coder_file *f)
+{
+    random_entry(f, random_below(f->bytes[3]), random_below(f->bytes[4]));
+}
+
+void draw_entries(coder_file *f, size_t states, size_t inputs, size_t outputs)
 {
     size_t kind = random_below(8), s, i;
 
@@ -166,13 +192,23 @@ void make_random(coder_file *f, size_t states, size_t inputs, size_t outputs)
         running_sum(f);
     if (kind == 7) {
         shift_register(f);
-        change_entry(f);
+        draw_entry(f);
     }
 }
 
+void make_random(coder_file *f, size_t states, size_t inputs, size_t outputs)
+{
+    draw_entries(f, states, inputs, outputs);
+    renumber_letters(f);
+}
+
+/* The letter drawn may be one that no entry has named. */
 void change_entry(coder_file *f)
 {
-    random_entry(f, random_below(f->bytes[3]), random_below(f->bytes[4]));
+    if (f->bytes[5] < 64)
+        f->bytes[5]++;
+    draw_entry(f);
+    renumber_letters(f);
 }
 
 /* ---- lines ---- */
@@ -187,6 +223,7 @@ void make_constant_line(coder_file *f, size_t line, const coder_file *end)
     for (k = 0; k < states * inputs; k++)
         put_entry(f, line + k / inputs, k % inputs, line + end->bytes[6 + 2 * k],
                   end->bytes[7 + 2 * k]);
+    renumber_letters(f);
 }
 
 void make_line_like_g(coder_file *f, size_t line)
@@ -201,11 +238,13 @@ void make_line_like_g(coder_file *f, size_t line)
         put_entry(f, line, i, line, i);
         put_entry(f, line + 1, i, line + 1, 2 + i);
     }
+    renumber_letters(f);
 }
 
 /* ---- chains ---- */
 
-/* Output letters of all chains: 0 for the shift, d for turn d; the padding comes after. */
+/* Output letters of all chains while they are made: 0 for the shift, d for turn d; the padding comes
+   after. At the end they are renumbered. */
 enum { NO_ENTRY = 255 };
 
 size_t chain_pairs(size_t states, size_t turns)
@@ -257,7 +296,6 @@ static void pad_with_own_outputs(coder_file *f, size_t output)
 
     for (s = 0; s < f->bytes[3]; s++)
         pad_with_own_output(f, s, output + s, 1);
-    f->bytes[5] = (uint8_t)(output + f->bytes[3]);
 }
 
 /* Fills the free entries so that all states have the same under one letter: runs join. */
@@ -269,7 +307,6 @@ static void pad_joining(coder_file *f, size_t output)
         for (i = 0; i < f->bytes[4]; i++)
             if (is_free(f, s, i))
                 put_entry(f, s, i, 0, output + i);
-    f->bytes[5] = (uint8_t)(output + f->bytes[4]);
 }
 
 /* Fills the free entries of all states but the last with more shifts, an output for each letter:
@@ -282,13 +319,13 @@ static void pad_shifting(coder_file *f, size_t output)
         for (i = 0; i < f->bytes[4]; i++)
             if (is_free(f, s, i))
                 put_entry(f, s, i, s + 1, output + i);
-    f->bytes[5] = (uint8_t)(output + f->bytes[4]);
 }
 
 void make_forward_chain(coder_file *f, size_t states, size_t turns)
 {
     begin_chain(f, states, turns + 2, turns, 0);
     pad_with_own_outputs(f, turns + 1);
+    renumber_letters(f);
 }
 
 void make_backward_chain(coder_file *f, size_t states, size_t turns)
@@ -297,6 +334,7 @@ void make_backward_chain(coder_file *f, size_t states, size_t turns)
     put_entry(f, states - 2 - turns, turns + 1, 0, turns + 1);
     put_entry(f, states - 1, 0, 0, turns + 1);
     pad_joining(f, turns + 2);
+    renumber_letters(f);
 }
 
 /* Runs join at the end of the first part under different letters; the padding of the last state
@@ -308,6 +346,7 @@ void make_split_chain(coder_file *f, size_t states, size_t turns)
     put_entry(f, states - 2 - turns, states - 1, 0, turns + 1);
     pad_with_own_output(f, states - 1, states - 1, turns + 2);
     pad_shifting(f, states);
+    renumber_letters(f);
 }
 
 /* Equal outputs under different letters lie at three places only. At the last pair of the chain,
@@ -336,7 +375,7 @@ void make_either_chain(coder_file *f, size_t states, size_t turns, size_t after,
     for (i = 0; i < f->bytes[4]; i++)
         if (is_free(f, last, i))
             put_entry(f, last, i, 0, own + i);
-    f->bytes[5] = (uint8_t)(own + f->bytes[4]);
+    renumber_letters(f);
 }
 
 /* Closed from the last pair to (1, 0) under different letters. */
@@ -351,6 +390,7 @@ void make_closed_back(coder_file *f, size_t states, size_t turns)
 {
     begin_closed(f, states, turns);
     pad_joining(f, turns + 2);
+    renumber_letters(f);
 }
 
 void make_closed_both(coder_file *f, size_t states, size_t turns)
@@ -358,6 +398,7 @@ void make_closed_both(coder_file *f, size_t states, size_t turns)
     begin_closed(f, states, turns);
     pad_with_own_output(f, states - 1, turns + 2, 1);
     pad_shifting(f, turns + 3);
+    renumber_letters(f);
 }
 
 /* Closed under one letter; the different letters lie in the padding. */
@@ -367,4 +408,5 @@ void make_closed_forward(coder_file *f, size_t states, size_t turns)
     put_entry(f, states - 2 - turns, turns + 1, 1, turns + 1);
     put_entry(f, states - 1, turns + 1, 0, turns + 1);
     pad_with_own_outputs(f, turns + 2);
+    renumber_letters(f);
 }

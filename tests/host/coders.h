@@ -1,5 +1,6 @@
 /* Coder files for the comparison: the examples, numbered and random coders, chains with long
-   windows, and the random numbers they come from. */
+   windows, and the random numbers they come from. Every coder that is made names all its output
+   letters; what may not is said to. */
 #ifndef CODERS_H
 #define CODERS_H
 
@@ -32,11 +33,23 @@ typedef struct example {
 enum { EXAMPLES = 8 };
 void make_example(size_t k, example *e);
 
-/* How many coders have these counts, and the one of a number below that. */
-size_t coders_with(size_t states, size_t inputs, size_t outputs);
-void make_numbered(coder_file *f, size_t states, size_t inputs, size_t outputs, size_t number);
+/* A file with these counts and entries of 0. */
+void begin_file(coder_file *f, size_t states, size_t inputs, size_t outputs);
 
-/* A random coder with these counts, of one of several kinds. */
+/* The output letters that entries name become 0, 1, 2 and so on in the same order, and O their number:
+   the same coder with other names for its letters, and none that no entry names. */
+void renumber_letters(coder_file *f);
+
+/* How many tables of entries these counts have, and the one of a number below that; there may be
+   letters that it does not name. */
+size_t coders_with(size_t states, size_t inputs, size_t outputs);
+void number_entries(coder_file *f, size_t states, size_t inputs, size_t outputs, size_t number);
+
+/* Random entries, of one of several kinds; there may be letters that they do not name. */
+void draw_entries(coder_file *f, size_t states, size_t inputs, size_t outputs);
+
+/* The coders of such entries, their letters renumbered: O may be less than it is given here. */
+void make_numbered(coder_file *f, size_t states, size_t inputs, size_t outputs, size_t number);
 void make_random(coder_file *f, size_t states, size_t inputs, size_t outputs);
 
 /* A line of states, each entered from the one before it alone and whatever the letter, that ends in
@@ -49,7 +62,7 @@ void make_constant_line(coder_file *f, size_t line, const coder_file *end);
    stay: one puts out 0 or 1 by its letter, the other 2 or 3. With two states it is coder G. */
 void make_line_like_g(coder_file *f, size_t line);
 
-/* One entry of the file made anew at random. */
+/* One entry of the file made anew at random, and the letters renumbered. */
 void change_entry(coder_file *f);
 
 /* The pairs of states on the chain {0, 1}, {1, 2}, ... that turns at the last state as long as the

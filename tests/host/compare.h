@@ -6,7 +6,7 @@
 #include "enumerator.h"
 
 enum {
-    NUMBERS = 15,          /* what a call returns: 0 and the refusals 1 to 14 */
+    NUMBERS = 16,          /* what a call returns: 0 and the refusals 1 to 15 */
     MOST_RUNS = 30000,     /* runs grouped by output string for one length of window */
     PAIR_STEPS = 20000,    /* steps for one window by pairs of runs */
     FIRST_STEPS = 100000,  /* steps for one first pair of a small coder by trying */

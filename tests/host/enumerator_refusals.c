@@ -24,6 +24,21 @@ static int entries_in_range(size_t states, size_t inputs, size_t outputs, const 
     return 1;
 }
 
+/* Document 02, 7/13: a letter below O that no entry names. */
+static int letter_unused(size_t states, size_t inputs, size_t outputs, const uint8_t *entries)
+{
+    size_t letter, k;
+
+    for (letter = 0; letter < outputs; letter++) {
+        k = 0;
+        while (k < states * inputs && entries[2 * k + 1] != letter)
+            k++;
+        if (k == states * inputs)
+            return 1;
+    }
+    return 0;
+}
+
 size_t refusal_of_file(const uint8_t *file, size_t len)
 {
     size_t count, states, inputs, outputs;
@@ -44,6 +59,8 @@ size_t refusal_of_file(const uint8_t *file, size_t len)
         return 5;
     if (!entries_in_range(states, inputs, outputs, file + 6))
         return 6;
+    if (letter_unused(states, inputs, outputs, file + 6))
+        return 15;
     return 0;
 }
 
@@ -208,7 +225,7 @@ static size_t refusal_of_table(const arguments *a, const coder *c)
     return 0;
 }
 
-/* Document 02, 3/13: 4, 5 of the number of entry bytes, 6, 11. */
+/* Document 02, 3/13 and 7/13: 4, 5 of the number of entry bytes, 6, 15, 11. */
 static size_t refusal_of_write(const arguments *a)
 {
     size_t states = a->counts[0], inputs = a->counts[1], outputs = a->counts[2];
@@ -219,6 +236,8 @@ static size_t refusal_of_write(const arguments *a)
         return 5;
     if (!entries_in_range(states, inputs, outputs, a->bytes))
         return 6;
+    if (letter_unused(states, inputs, outputs, a->bytes))
+        return 15;
     if (a->lent_len < 6 + 2 * states * inputs || a->result_len < RESULT_BYTES)
         return 11;
     return 0;

@@ -77,9 +77,21 @@ static void damage_entry(const arguments *a, size_t byte, size_t limit)
     file_room[6 + 2 * random_below(entries) + byte] = byte_from(limit);
 }
 
+/* A letter more than there are; or an output letter that becomes another one, and may have been the
+   only one of its kind. */
+static void damage_alphabet(const arguments *a)
+{
+    size_t entries = a->file_len > 7 ? (a->file_len - 6) / 2 : 1;
+
+    if (random_below(2))
+        file_room[5]++;
+    else
+        file_room[7 + 2 * random_below(entries)] = (uint8_t)random_below(file_room[5] ? file_room[5] : 1);
+}
+
 static void damage_file(arguments *a)
 {
-    switch (random_below(8)) {
+    switch (random_below(9)) {
     case 0:
         a->file_len = random_below(7);
         break;
@@ -102,17 +114,29 @@ static void damage_file(arguments *a)
     case 6:
         damage_entry(a, 0, file_room[3]);
         break;
+    case 7:
+        damage_alphabet(a);
+        break;
     default:
         damage_entry(a, 1, file_room[5]);
     }
 }
 
-/* A count that the writer is given: 0, or above its limit. */
+/* A count that the writer is given: 0, above its limit, or one more than it was. */
 static void damage_given_count(arguments *a, size_t k)
 {
     static const size_t most[3] = {MOST_STATES, MOST_INPUTS, MOST_OUTPUTS};
 
-    a->counts[k] = random_below(4) == 0 ? 0 : number_from(most[k] + 1);
+    switch (random_below(4)) {
+    case 0:
+        a->counts[k] = 0;
+        break;
+    case 1:
+        a->counts[k]++;
+        break;
+    default:
+        a->counts[k] = number_from(most[k] + 1);
+    }
 }
 
 /* A number of the call: a start state, a side, a settle count, a length, a count. */
@@ -195,10 +219,10 @@ static void damage(arguments *a)
 static void check_reach(void)
 {
     static const char *const reach[CALLS] = {
-        [CALL_RUN]    = "111111110001100", [CALL_SEARCH] = "111111100001001",
-        [CALL_DECODE] = "111111101001011", [CALL_CHECK]  = "111111110101100",
-        [CALL_WINDOW] = "111111101101011", [CALL_TABLE]  = "111111101011001",
-        [CALL_WRITE]  = "100011100001000"
+        [CALL_RUN]    = "1111111100011001", [CALL_SEARCH] = "1111111000010011",
+        [CALL_DECODE] = "1111111010010111", [CALL_CHECK]  = "1111111101011001",
+        [CALL_WINDOW] = "1111111011010111", [CALL_TABLE]  = "1111111010110011",
+        [CALL_WRITE]  = "1000111000010001"
     };
     int call, k;
 

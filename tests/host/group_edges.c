@@ -6,13 +6,15 @@
 
 static uint8_t file_room[LENT_ROOM];
 
-/* Counts at and past their ranges: a file of the right length with zero entries, for the writer zero
-   entries of the right number. */
+/* Counts at and past their ranges: a file of the right length, for the writer entries of the right
+   number. All entries lead to state 0; their letters go through all that there are, as far as there
+   are entries. */
 static void edge_counts(size_t states, size_t inputs, size_t outputs, size_t number)
 {
     size_t count = 3 + 2 * states * inputs;
     arguments a;
     coder_file none;
+    size_t k;
     int call;
 
     memset(&none, 0, sizeof none);
@@ -23,8 +25,12 @@ static void edge_counts(size_t states, size_t inputs, size_t outputs, size_t num
     file_room[3] = (uint8_t)states;
     file_room[4] = (uint8_t)inputs;
     file_room[5] = (uint8_t)outputs;
-    memset(letters_room, 0, count);
+    for (k = 0; k < states * inputs && outputs > 0; k++)
+        file_room[7 + 2 * k] = (uint8_t)(k % outputs);
     for (call = 0; call < CALLS; call++) {
+        memset(letters_room, 0, count);
+        if (call == CALL_WRITE)
+            memcpy(letters_room, file_room + 6, count - 3);
         a = plain((enum call)call, &none);
         a.file = file_room;
         a.file_len = count + 3;
@@ -129,9 +135,12 @@ void group_edges(void)
     edge_counts(17, 1, 1, 4);
     edge_counts(1, 16, 1, 0);
     edge_counts(1, 17, 1, 4);
-    edge_counts(1, 1, 64, 0);
-    edge_counts(1, 1, 65, 4);
+    edge_counts(4, 16, 64, 0);
+    edge_counts(4, 16, 65, 4);
     edge_counts(16, 16, 64, 0);
+    edge_counts(16, 16, 65, 4);
+    edge_counts(1, 1, 64, 15);
+    edge_counts(1, 1, 65, 4);
     edge_counts(17, 17, 65, 4);
     edge_counts(0, 1, 1, 4);
     edge_counts(1, 0, 1, 4);

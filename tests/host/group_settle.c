@@ -64,7 +64,7 @@ static void beside(const arguments *a, size_t number, int comes_first)
     known_refusal(&b, comes_first ? number : 14);
 }
 
-/* The numbers of the file: a file too short, or one with one byte changed. */
+/* The numbers of the file: a file too short, or one with one byte changed; for 15, a letter more. */
 static void beside_file(enum call call, const coder_file *f)
 {
     static const struct {
@@ -84,6 +84,9 @@ static void beside_file(enum call call, const coder_file *f)
         changed.bytes[rows[k].place] = rows[k].byte;
         beside(&a, rows[k].number, 1);
     }
+    changed = *f;
+    changed.bytes[5]++;
+    beside(&a, 15, 1);
 }
 
 /* 8 comes before 14; 9 to 13 come after it. */

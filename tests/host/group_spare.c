@@ -58,7 +58,7 @@ static void make_padded(const coder_file *f, size_t states, int between, coder_f
     coder c = coder_of_file(f->bytes);
     size_t s, i;
 
-    make_random(g, states, c.inputs, c.outputs);
+    draw_entries(g, states, c.inputs, c.outputs);
     for (s = 0; s < c.states; s++)
         for (i = 0; i < c.inputs; i++) {
             size_t at = 6 + 2 * (moved(s, between) * c.inputs + i);
@@ -219,7 +219,7 @@ static void make_line(coder_file *f, size_t n, size_t broken, int way, size_t on
 {
     size_t k, i;
 
-    make_numbered(f, n, 2, 3, 0);
+    begin_file(f, n, 2, 3);
     for (k = 0; k < n; k++)
         for (i = 0; i < 2; i++) {
             size_t at = 6 + 2 * (2 * in_line(k, n, way) + i);

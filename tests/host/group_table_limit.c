@@ -5,16 +5,19 @@
 
 #include <string.h>
 
-/* A coder of two states and two input letters. Its outputs go up to O - 1, and those of one state
-   differ where O is above 1. */
+/* A coder of two states, or of five where two have too few entries, with as many input letters as it
+   takes to have two entries more than O. The letters go up to O - 1 and from there down again, so
+   that some are named twice. */
 static void make_with_outputs(coder_file *f, size_t outputs)
 {
-    const size_t last = outputs - 1;
-    const uint8_t bytes[14] = {1, 0, 11, 2, 2, (uint8_t)outputs, 0, 0, 1, (uint8_t)last,
-                               1, (uint8_t)last, 0, (uint8_t)(last / 2)};
+    size_t states = outputs + 2 <= 2 * MOST_INPUTS ? 2 : 5;
+    size_t inputs = (outputs + 2 + states - 1) / states, k;
 
-    memcpy(f->bytes, bytes, sizeof bytes);
-    f->len = sizeof bytes;
+    begin_file(f, states, inputs, outputs);
+    for (k = 0; k < states * inputs; k++) {
+        f->bytes[6 + 2 * k] = (uint8_t)((k / inputs + k % inputs) % states);
+        f->bytes[7 + 2 * k] = (uint8_t)(k < outputs ? k : outputs - 1 - (k - outputs) % outputs);
+    }
 }
 
 /* The cases of document 02 and the bytes of document 01 say the same. */

@@ -87,12 +87,27 @@ static void edge_number(const coder_file *f)
         known_both(&a, a.bytes_len == right ? 6 : 5);
 }
 
+/* The coder with each entry under two input letters: so another letter at one entry leaves none
+   without an entry. */
+static void make_doubled(const coder_file *f, coder_file *g)
+{
+    size_t inputs = f->bytes[4], k;
+
+    begin_file(g, f->bytes[3], 2 * inputs, f->bytes[5]);
+    for (k = 0; k < (g->len - 6) / 2; k++)
+        memcpy(g->bytes + 6 + 2 * k,
+               f->bytes + 6 + 2 * (k / (2 * inputs) * inputs + k % inputs), 2);
+}
+
 /* Each byte of the entries at its highest and one higher. */
 static void edge_entries(const coder_file *f)
 {
-    arguments a = parts_of(f);
+    coder_file g;
+    arguments a;
     size_t k;
 
+    make_doubled(f, &g);
+    a = parts_of(&g);
     for (k = 0; k < a.bytes_len; k++) {
         size_t limit = a.counts[k % 2 ? 2 : 0];
 
@@ -100,7 +115,7 @@ static void edge_entries(const coder_file *f)
         known_both(&a, 0);
         letters_room[k] = (uint8_t)limit;
         known_both(&a, 6);
-        letters_room[k] = f->bytes[6 + k];
+        letters_room[k] = g.bytes[6 + k];
     }
 }
 
@@ -124,6 +139,9 @@ static void edge_writer_buffers(const coder_file *f)
     a.bytes_len++;
     letters_room[0] = MOST_STATES;
     known_refusal(&a, 6);
+    letters_room[0] = f->bytes[6];
+    a.counts[2]++;
+    known_refusal(&a, 15);
 }
 
 /* ---- written and read back ---- */
@@ -162,13 +180,16 @@ void group_writer(void)
         for (c = 0; c < 3; c++)
             edge_count(&e.file, c);
         edge_number(&e.file);
+        text_file(NULL, 0);
         edge_entries(&e.file);
         edge_writer_buffers(&e.file);
         written_and_read(&e.file);
         text_file(NULL, 0);
     }
     edge_products();
-    make_random(&f, MOST_STATES, MOST_INPUTS, MOST_OUTPUTS);
+    do
+        make_random(&f, MOST_STATES, MOST_INPUTS, MOST_OUTPUTS);
+    while (f.bytes[5] != MOST_OUTPUTS);
     known_value("the largest file's length", f.len, MOST_FILE);
     written_and_read(&f);
     for (k = 0; k < 5000; k++) {

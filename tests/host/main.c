@@ -14,8 +14,8 @@
 
    Cases in named orders (named_orders.c) are written for the examples, padded ones too, all small
    coders, the small random ones, the chains, the changed chains of up to 6 states, and the lines of
-   the settle counts; cases of the reader and of the writer (group_writer.c) for the examples and for
-   random coders. */
+   the settle counts; cases of the reader and of the writer for the examples and for random coders
+   (group_writer.c), and for files with output letters that no entry names (group_unused.c). */
 #include "case_texts.h"
 #include "coders.h"
 #include "compare.h"
@@ -58,6 +58,7 @@ int main(int count, char **words)
     group_spare();
     group_settle_limit();
     group_settle();
+    group_unused();
     group_orders();
     return end_groups();
 }

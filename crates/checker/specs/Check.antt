@@ -11,7 +11,7 @@ use Rattle.coder.specs.File.{fileRefusal, statesOf, inputsOf, settingOf}
 use Rattle.checker.specs.declared.CheckResult.{CheckResult}
 use Rattle.checker.specs.declared.CheckResult.the-variants.{Refused, Checked}
 
--- The call's refusal, in checking order: 1 to 6, then 7 (a start state), 9 (there are not two bytes for each letter; the sum is one of
+-- The call's refusal, in checking order: the file's, then 7 (a start state), 9 (there are not two bytes for each letter; the sum is one of
 -- whole numbers, which does not wrap), 11 (some lent buffer is too short) and 12 (an input letter).
 unfoldable pub checkRefusal : List ℕ → LoopedPair → Bool → ℕ
 checkRefusal f p fits =

@@ -11,7 +11,7 @@ pub enum CheckResult {
     Checked(bool),
 }
 
-// Whether a looped pair is valid: its starts and lengths, and two bytes for each letter. Refusals 1 to 6, 7, 9, 12.
+// Whether a looped pair is valid: its starts and lengths, and two bytes for each letter. The file's refusals, 7, 9, 12.
 pub fn check(file: &[u8], pair: LoopedPair, letters: &[u8]) -> CheckResult
     ensures { λ r. ⌜ CheckPromise (now (file .entry)) (pairOf pair (now (letters .entry))) r ⌝ }
 {

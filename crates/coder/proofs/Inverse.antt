@@ -10,7 +10,8 @@ use Rattle.mealy.proofs.Letters.{letters-by-two}
 use Rattle.coder.specs.BigEndian.{bigEndian}
 use Rattle.coder.specs.File.{statesOf, inputsOf, outputsOf, entriesOf, fileOf, entriesRefusal, fileRefusal}
 use Rattle.coder.proofs.BigEndian.{bytes-back}
-use Rattle.coder.proofs.Accepted.{EntriesAccepted, Accepted, accepted, by-rest, entries-accepted}
+use Rattle.coder.specs.Accepted.{IsCoder}
+use Rattle.coder.proofs.Accepted.{Accepted, accepted, by-rest, entries-accepted, entries-high}
 
 -- what is read of an accepted file gives the file
 file-back : (f : List ℕ) → Letters 256 f → Accepted f → fileOf (statesOf f) (inputsOf f) (outputsOf f) (entriesOf f) ≡ f
@@ -27,7 +28,7 @@ pub read-written :
     (f : List ℕ) → Letters 256 f → fileRefusal f ≡ 0 → fileOf (statesOf f) (inputsOf f) (outputsOf f) (entriesOf f) ≡ f
 read-written f h e = file-back f h (accepted f e)
 
--- the file of counts and entries that refusals 4 to 6 pass is accepted, and gives them back
+-- the file of counts and entries that refusals 4 to 6 and 15 pass is accepted, and gives them back
 pub record ReadBack (n i o : ℕ) (entries : List ℕ) : Type 0 where
   pub none : fileRefusal (fileOf n i o entries) ≡ 0
   pub states : statesOf (fileOf n i o entries) ≡ n
@@ -40,14 +41,14 @@ unfolding bigEndian
 written-read n i o entries e =
     let a = entries-accepted n i o entries e in
     record {
-      none = by-rest (fileOf n i o entries) (omega arith) refl (omega (arith, a .size, a .limits .entries-high)) ∙ e;
+      none = by-rest (fileOf n i o entries) (omega arith) refl (omega (arith, a .size, entries-high n i o (a .limits))) ∙ e;
       states = refl;
       inputs = refl;
       outputs = refl;
       bytes = refl;
     }
 
-entries-bytes : (n i o : ℕ) (entries : List ℕ) → EntriesAccepted n i o entries → Letters 256 entries
+entries-bytes : (n i o : ℕ) (entries : List ℕ) → IsCoder n i o entries → Letters 256 entries
 entries-bytes n i o entries a =
     let h = letters-by-two 256 (n * i) entries (omega (arith, a .size))
     (λ j l. omega (arith, a .next-state j l, a .limits .states-high)) (λ j l. omega (arith, a .output-letter j l, a .limits .outputs-high)) in

@@ -2,6 +2,8 @@
 pub mod Refusals
 pub mod Judging
 pub mod FileNumbers
+pub mod EntryPlaces
+pub mod Alphabet
 pub mod Accepted
 pub mod BigEndian
 pub mod Inverse

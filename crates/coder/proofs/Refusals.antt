@@ -1,6 +1,6 @@
 -- Laws of the tests and chains of numbers that refusals are made of.
 use mathlib.Core.Path.{_≡_, refl, sym, ap, _∙_, subst}
-use mathlib.Core.Bool.{Bool, true, false, not, _&&_}
+use mathlib.Core.Bool.{Bool, true, false, not, _&&_, _||_}
 use mathlib.Core.List.{List, [], _∷_}
 use mathlib.Core.Logic.{⊎-elim}
 use Prim.Native.Nat.{ℕ, zero, suc, _+_, _<_, _≤_}
@@ -12,7 +12,7 @@ use lib.Seq.{drop-cons}
 use lib.Dec.{ltb}
 use borrow.Author.Tests.{lt-ltb, le-ltb, le-leb, lt-leb, eq-eqb, ne-eqb, ltb-true, not-false}
 use Rattle.mealy.specs.Machine.{Letters}
-use Rattle.coder.specs.Refusal.{refuse, first, answer, allBelow, lettersBelow, upon}
+use Rattle.coder.specs.Refusal.{refuse, first, answer, allBelow, someBelow, lettersBelow, upon}
 
 -- the value of a test from what is known of its numbers
 pub ruleset tests = (lt-ltb, le-ltb, le-leb, lt-leb, eq-eqb, ne-eqb)
@@ -120,6 +120,34 @@ all-not zero p k l e = absurd (omega arith)
 all-not (suc n) p k l e =
     ⊎-elim (λ (q : k ≡ n). rw (← q, e)) (λ (q : k < n). both-false (p n) (allBelow n p) (all-not n p k q e))
     (eq-or-lt-of-le (le-of-suc-le-suc l))
+
+pub all-of : (n : ℕ) (p : ℕ → Bool) → ((k : ℕ) → k < n → p k ≡ true) → allBelow n p ≡ true
+unfolding allBelow
+all-of zero p h = refl
+all-of (suc n) p h = rw (h n (omega arith)) (all-of n p (λ k l. h k (omega arith)))
+
+-- a test of some number below n
+pub some-at : (n : ℕ) (p : ℕ → Bool) → someBelow n p ≡ true → (k : ℕ) × (k < n) × (p k ≡ true)
+unfolding someBelow
+some-at zero p e = absurd (true-false e refl)
+some-at (suc n) p e = go (p n) refl (λ d. some-at n p d) e
+  where
+    go :
+        (t : Bool) → p n ≡ t → (someBelow n p ≡ true → (k : ℕ) × (k < n) × (p k ≡ true)) → (t || someBelow n p) ≡ true →
+        (k : ℕ) × (k < suc n) × (p k ≡ true)
+    go true q f d = (n, omega arith, q)
+    go false q f d = let r = f d in (r .0, omega (arith, r .1), r .2)
+
+pub some-of : (n : ℕ) (p : ℕ → Bool) (k : ℕ) → k < n → p k ≡ true → someBelow n p ≡ true
+unfolding someBelow
+some-of zero p k l e = absurd (omega arith)
+some-of (suc n) p k l e =
+    ⊎-elim (λ (q : k ≡ n). rw (← q, e)) (λ (q : k < n). go (p n) (some-of n p k q e))
+    (eq-or-lt-of-le (le-of-suc-le-suc l))
+  where
+    go : (t : Bool) → someBelow n p ≡ true → (t || someBelow n p) ≡ true
+    go true d = refl
+    go false d = d
 
 -- the test of the letters from place k on
 letters-from :

@@ -3,7 +3,6 @@ use mathlib.Core.Path.{_≡_, refl, sym, _∙_, fun-ext}
 use mathlib.Core.Bool.{Bool, true, false}
 use mathlib.Core.List.{List}
 use Prim.Native.Nat.{ℕ, _+_, _*_, _/_, _%_, _<_, _≤_}
-use native.Mathlib.Nat.{mul-suc, mul-comm, mul-le-mul-left}
 use native.Mathlib.Decide.{decLt}
 use native.Mathlib.Omega.{arith}
 use lib.ListN.{getD, List·getD-eq-default}
@@ -15,17 +14,10 @@ use Rattle.mealy.proofs.ReachableStates.{reachable-bounded, dec-reachable}
 use Rattle.coder.specs.File.{statesOf, inputsOf, outputsOf, entriesOf, entryOf, machineOfEntries, machineOf, settingOf}
 use Rattle.coder.specs.Table.{tableOf, coderOfEntries, coderOf, tableAt, machineOfCoder, Sound}
 use Rattle.coder.specs.declared.inner.tables.Coder.{Coder}
-use Rattle.coder.proofs.Accepted.{EntriesAccepted, Accepted}
+use Rattle.coder.specs.Accepted.{IsCoder}
+use Rattle.coder.proofs.Accepted.{Accepted}
+use Rattle.coder.proofs.EntryPlaces.{place}
 use Rattle.coder.proofs.Fill.{length-table, getD-table}
-
--- the entry of state s and letter i is one of n * m
-pub place : {n m s i : ℕ} → s < n → i < m → m * s + i < n * m
-place {n} {m} {s} {i} p q = omega (arith, mul-le-mul-left m p, mul-suc m s, mul-comm n m)
-
--- the bytes of an entry stand among the entries
-pub entry-place :
-    {n m k offset s i : ℕ} → k ≡ 2 * (n * m) → offset < 2 → s < n → i < m → 2 * (m * s + i) + offset < k
-entry-place e l p q = omega (arith, place p q)
 
 -- A byte of an entry is one of the bytes, or 0.
 pub entry-cases :
@@ -99,7 +91,7 @@ entry-below :
 entry-below n m entries b k h z s i =
     entry-cases (λ v. v < k) n m entries b s i (λ p q. h (m * s + i) (place p q)) (λ n. z)
 
-module _ {n m o : ℕ} {entries : List ℕ} (a : EntriesAccepted n m o entries) where
+module _ {n m o : ℕ} {entries : List ℕ} (a : IsCoder n m o entries) where
   pub table-same : (b : ℕ) → tableAt (tableOf n m entries b) ≡ entryOf n m entries b
   table-same b =
       let l = a .limits in

@@ -9,6 +9,7 @@ use Rattle.mealy.specs.Machine.{Machine}
 use Rattle.mealy.specs.Setting.{Setting, fromReachable, afterLetters}
 use Rattle.coder.specs.Refusal.{refuse, answer, allBelow}
 use Rattle.coder.specs.Limits.{maxStates, maxInputs, maxOutputs}
+use Rattle.coder.specs.Alphabet.{letterOf, allNamed}
 use Rattle.coder.specs.BigEndian.{bigEndian, fromBigEndian}
 use Rattle.coder.specs.declared.Header.{Header}
 use Rattle.coder.specs.declared.Header.the-variants.{Refused, Counts}
@@ -46,18 +47,20 @@ inRange n i o = within n maxStates && (within i maxInputs && within o maxOutputs
 
 -- Refusal 6's test of entry j, counted over all states: its next state and its output letter.
 unfoldable pub entryInRange : ℕ → ℕ → List ℕ → ℕ → Bool
-entryInRange n o entries j = ltb (getD entries (2 * j) 0) n && ltb (getD entries (2 * j + 1) 0) o
+entryInRange n o entries j = ltb (getD entries (2 * j) 0) n && ltb (letterOf entries j) o
 
--- Refusals 4 to 6, of N, I, O and the entry bytes. Document 01 has refusal 5 of the count field, which is to be 3 + 2 × N × I: past
--- refusal 3 that field is the number of bytes after byte 2, so 3 more than the number of entry bytes.
+-- Refusals 4 to 6 and 15, of N, I, O and the entry bytes, in checking order: document 02, 7/13, has 15 directly after 6. Document 01 has
+-- refusal 5 of the count field, which is to be 3 + 2 × N × I: past refusal 3 that field is the number of bytes after byte 2, so 3 more
+-- than the number of entry bytes.
 unfoldable pub entriesRefusal : ℕ → ℕ → ℕ → List ℕ → ℕ
 entriesRefusal n i o entries =
     refuse (not (inRange n i o)) 4
     (refuse (not (eqb (length entries) (2 * (n * i)))) 5
     (refuse (not (allBelow (n * i) (entryInRange n o entries))) 6
-    0))
+    (refuse (not (allNamed o (n * i) entries)) 15
+    0)))
 
--- Refusals 1 to 6: document 01's list as far as it concerns the coder file. A file is accepted where this is 0.
+-- Refusals 1 to 6 and 15: the list as far as it concerns the coder file. A file is accepted where this is 0.
 unfoldable pub fileRefusal : List ℕ → ℕ
 fileRefusal f =
     refuse (ltb (length f) 6) 1

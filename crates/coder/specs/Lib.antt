@@ -2,5 +2,7 @@
 pub mod Refusal
 pub mod Limits
 pub mod BigEndian
+pub mod Alphabet
 pub mod File
+pub mod Accepted
 pub mod Table

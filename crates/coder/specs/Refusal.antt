@@ -1,7 +1,7 @@
 -- Refusals: a call goes down the list of numbers and takes the first that applies.
 use Prim.Native.Nat.{ℕ, zero, suc}
 use mathlib.Core.Path.{_≡_}
-use mathlib.Core.Bool.{Bool, true, false, _&&_}
+use mathlib.Core.Bool.{Bool, true, false, _&&_, _||_}
 use mathlib.Core.List.{List, [], _∷_}
 use lib.Dec.{ltb}
 
@@ -29,6 +29,11 @@ upon (suc k) refused done = refused (suc k)
 unfoldable pub allBelow : ℕ → (ℕ → Bool) → Bool
 allBelow zero p = true
 allBelow (suc n) p = p n && allBelow n p
+
+-- p holds of some number below n
+unfoldable pub someBelow : ℕ → (ℕ → Bool) → Bool
+someBelow zero p = false
+someBelow (suc n) p = p n || someBelow n p
 
 -- every letter is below n: the test behind refusals 12 and 13
 abbrev pub lettersBelow : ℕ → List ℕ → Bool

@@ -15,7 +15,7 @@ pub enum Header {
     },
 }
 
-// The file reader's first call: N, I and O, or the refusal, 1 to 6.
+// The file reader's first call: N, I and O, or the refusal, 1 to 6 or 15.
 pub fn counts(file: &[u8]) -> Header
     ensures { λ r. ⌜ r ≡ headerOf (now (file .entry)) ⌝ }
 {

@@ -11,7 +11,7 @@ use Rattle.table_size.specs.Size.{maxTable}
 use Rattle.values.specs.Window.{size}
 use Rattle.values.specs.declared.Window.{Window}
 
--- 1 to 6, 8 and 14 (document 02, 6/13, last sentence): what every call with a window is refused for first.
+-- The file's, 8 and 14 (document 02, 6/13, last sentence): what every call with a window is refused for first.
 unfoldable pub limitsRefusal : List ℕ → Window → ℕ
 limitsRefusal f w =
     first (fileRefusal f)

@@ -15,7 +15,7 @@ pub enum WindowResult {
     Answered(fitting::Answer),
 }
 
-// Decodes one window of received letters. Refusals 1 to 6, 8, 14, 9, 13.
+// Decodes one window of received letters. The file's refusals, 8, 14, 9, 13.
 pub fn window(file: &[u8], w: Window, received: &[u8]) -> WindowResult
     ensures { λ r. ⌜ WindowPromise (now (file .entry)) w (now (received .entry)) r ⌝ }
 {
@@ -26,7 +26,7 @@ pub fn window(file: &[u8], w: Window, received: &[u8]) -> WindowResult
     WindowResult::Answered(checked::window(file, w, received))
 }
 
-// Decodes each place of a string that has a full window. Refusals 1 to 6, 8, 14, 11, 13.
+// Decodes each place of a string that has a full window. The file's refusals, 8, 14, 11, 13.
 pub fn string(file: &[u8], w: Window, received: &[u8], output: &mut [u8]) -> CountResult
     ensures { λ r. ⌜ StringPromise (now (file .entry)) w (now (received .entry)) (now (output .entry)) r (now (output .exit)) ⌝ }
 {
@@ -38,7 +38,7 @@ pub fn string(file: &[u8], w: Window, received: &[u8], output: &mut [u8]) -> Cou
     CountResult::Done { count }
 }
 
-// Fills the decoder table: a byte for each window, by its index. Refusals 1 to 6, 8, 14, 10, 11.
+// Fills the decoder table: a byte for each window, by its index. The file's refusals, 8, 14, 10, 11.
 pub fn table(file: &[u8], w: Window, table: &mut [u8]) -> CountResult
     ensures { λ r. ⌜ TablePromise (now (file .entry)) w (now (table .entry)) r (now (table .exit)) ⌝ }
 {

@@ -1,18 +1,13 @@
 -- The tables by output letter, as they are made.
-use mathlib.Core.Path.{_≡_, sym, subst}
 use mathlib.Core.List.{List}
-use Prim.Native.Nat.{ℕ, _+_, _*_, _%_, _^_, _<_}
+use Prim.Native.Nat.{ℕ, _+_, _*_, _<_}
 use native.Mathlib.Omega.{arith}
 use lib.ListN.{getD}
 use Rattle.mealy.specs.Word.{Holds}
-use Rattle.mealy.proofs.Words.{holds-map, holds-one, shifted}
+use Rattle.mealy.proofs.Words.{holds-map}
 use Rattle.mealy.proofs.Members.{holds-itself}
 use Rattle.mealy.proofs.StepWords.{StepsTaken}
 use Rattle.fitting.specs.Tables.{Gives, ByOutput, Leads}
-
--- one number, as it is made
-pub holds-shifted : {P : ℕ → Type 0} (x : ℕ) → x < 16 → P x → ((y : ℕ) → P y → y ≡ x) → Holds P (1 * 2 ^ x % 2 ^ 16)
-holds-shifted {P} x l p h = subst (λ (u : ℕ). Holds P u) (sym (shifted 16 x l)) (holds-one x l p h)
 
 -- step p: the entry at place p gives its value to the word of its key and its output letter
 abbrev pub wordOf : List ℕ → List ℕ → ℕ → ℕ

@@ -21,7 +21,7 @@ fn both_fit(n: usize, room: usize, result: usize) -> bool
     false
 }
 
-// Runs the coder from a start state: writes an output letter for each input letter. Refusals 1 to 6, 7, 11, 12.
+// Runs the coder from a start state: writes an output letter for each input letter. The file's refusals, 7, 11, 12.
 #[no_mangle]
 pub extern "C" fn lowhenita_run(
     file: &[u8],
@@ -43,7 +43,7 @@ pub extern "C" fn lowhenita_run(
 }
 
 // Finds the least window with a settle count that works for a coder in the default order, least lookahead, or the first looped pair where
-// none does. Refusals 1 to 6, 14, 11.
+// none does. The file's refusals, 14, 11.
 #[no_mangle]
 pub extern "C" fn lowhenita_search(
     file: &[u8],
@@ -63,7 +63,7 @@ pub extern "C" fn lowhenita_search(
     0
 }
 
-// Decodes each place of a string that has a full window. Refusals 1 to 6, 8, 14, 11, 13.
+// Decodes each place of a string that has a full window. The file's refusals, 8, 14, 11, 13.
 #[no_mangle]
 pub extern "C" fn lowhenita_decode(
     file: &[u8],
@@ -91,7 +91,7 @@ pub extern "C" fn lowhenita_decode(
     0
 }
 
-// Whether a looped pair is valid. Refusals 1 to 6, 7, 9, 11, 12.
+// Whether a looped pair is valid. The file's refusals, 7, 9, 11, 12.
 #[no_mangle]
 pub extern "C" fn lowhenita_check(
     file: &[u8],
@@ -124,7 +124,7 @@ pub extern "C" fn lowhenita_check(
     0
 }
 
-// Decodes one window of received letters. Refusals 1 to 6, 8, 14, 9, 11, 13.
+// Decodes one window of received letters. The file's refusals, 8, 14, 9, 11, 13.
 #[no_mangle]
 pub extern "C" fn lowhenita_window(
     file: &[u8],
@@ -152,7 +152,7 @@ pub extern "C" fn lowhenita_window(
     0
 }
 
-// Fills the decoder table: a byte for each window, by its index. Refusals 1 to 6, 8, 14, 10, 11.
+// Fills the decoder table: a byte for each window, by its index. The file's refusals, 8, 14, 10, 11.
 #[no_mangle]
 pub extern "C" fn lowhenita_table(
     file: &[u8],
@@ -179,7 +179,7 @@ pub extern "C" fn lowhenita_table(
     0
 }
 
-// Writes the file of three counts and their entry bytes. Refusals 4 to 6, 11.
+// Writes the file of three counts and their entry bytes. Refusals 4 to 6, 15, 11.
 #[no_mangle]
 pub extern "C" fn lowhenita_write(
     states: usize,

@@ -1,5 +1,5 @@
 -- Words that hold sets: the empty set, one number, unions, intersections, complements, the greatest number.
-use mathlib.Core.Path.{_≡_, refl, sym, ap, _∙_}
+use mathlib.Core.Path.{_≡_, refl, sym, ap, subst, _∙_}
 use mathlib.Core.Logic.{_⊎_, _≢_, inl, inr, ⊎-elim}
 use Prim.Native.Nat.{ℕ, zero, suc, _+_, _-_, _*_, _/_, _%_, _^_, _<_, _≤_, max, min}
 use native.Mathlib.Decide.{ℕ-discrete, decLt}
@@ -7,9 +7,9 @@ use native.Mathlib.Nat.{le-refl, max-comm, zero-max, pow-suc, one-mul, div-eq-of
 use native.Mathlib.Omega.{arith}
 use lib.Bits.{bitOr, bitAnd, or-step, or-shr, or-lt, or-shifted, and-step, and-shr}
 use lib.Count.{leadingZeros, leading-le, leading-top}
-use lib.Pow.{pow-pos, pow-lt, pow-add, shl-exact, shr-shr}
+use lib.Pow.{pow-pos, pow-lt, pow-mono, pow-add, shl-exact, shr-shr}
 use lib.Dec.{lit<}
-use Rattle.mealy.specs.Word.{Has, Holds}
+use Rattle.mealy.specs.Word.{Has, HoldsIn, Holds}
 
 -- the union's bits
 one-max : (b : ℕ) → b < 2 → max 1 b ≡ 1
@@ -85,7 +85,7 @@ leading-high zero n = absurd (n refl)
 leading-high (suc u) n = leading-le 15 (suc u / 2)
 
 pub holds-map :
-    {P Q : ℕ → Type 0} {u : ℕ} → ((x : ℕ) → P x → Q x) → ((x : ℕ) → Q x → P x) → Holds P u → Holds Q u
+    {w : ℕ} {P Q : ℕ → Type 0} {u : ℕ} → ((x : ℕ) → P x → Q x) → ((x : ℕ) → Q x → P x) → HoldsIn w P u → HoldsIn w Q u
 holds-map f g a =
     record {
       bound = a .bound;
@@ -94,16 +94,16 @@ holds-map f g a =
       only = λ x l h. f x (a .only x l h);
     }
 
-pub holds-none : {P : ℕ → Type 0} → ((x : ℕ) → P x → ⊥) → Holds P 0
-holds-none h =
+pub holds-none : {w : ℕ} {P : ℕ → Type 0} → ((x : ℕ) → P x → ⊥) → HoldsIn w P 0
+holds-none {w} h =
     record {
-      bound = omega arith;
+      bound = pow-pos w;
       below = λ x p. absurd (h x p);
       has = λ x p. absurd (h x p);
       only = λ x l e. absurd (has-empty x e);
     }
 
-pub holds-one : {P : ℕ → Type 0} (x : ℕ) → x < 16 → P x → ((y : ℕ) → P y → y ≡ x) → Holds P (2 ^ x)
+pub holds-one : {w : ℕ} {P : ℕ → Type 0} (x : ℕ) → x < w → P x → ((y : ℕ) → P y → y ≡ x) → HoldsIn w P (2 ^ x)
 holds-one x l p h =
     record {
       bound = pow-lt l;
@@ -112,18 +112,21 @@ holds-one x l p h =
       only = λ y m e. rw (has-alone y x e) p;
     }
 
+pub holds-shifted : {w : ℕ} {P : ℕ → Type 0} (x : ℕ) → x < w → P x → ((y : ℕ) → P y → y ≡ x) → HoldsIn w P (1 * 2 ^ x % 2 ^ w)
+holds-shifted {w} {P} x l p h = subst (λ (u : ℕ). HoldsIn w P u) (sym (shifted w x l)) (holds-one x l p h)
+
 -- 0 says that the set is empty, and any other word that it is not
-pub holds-empty : {P : ℕ → Type 0} {u : ℕ} → Holds P u → u ≡ 0 → (x : ℕ) → P x → ⊥
+pub holds-empty : {w : ℕ} {P : ℕ → Type 0} {u : ℕ} → HoldsIn w P u → u ≡ 0 → (x : ℕ) → P x → ⊥
 holds-empty a e x p = has-empty x (rw e at (a .has x p))
 
 -- its greatest letter
 pub holds-greatest :
-    {P : ℕ → Type 0} {u : ℕ} → Holds P u → (u ≡ 0 → ⊥) →
-    (x : ℕ) × (15 - leadingZeros 16 u ≡ x) × (2 ^ x ≤ u) × (u < 2 ^ suc x) × P x
-holds-greatest {P} {u} a n =
-    let t = leading-top 16 u (omega arith) (a .bound) in
+    {w : ℕ} {P : ℕ → Type 0} {u : ℕ} → HoldsIn w P u → (u ≡ 0 → ⊥) →
+    (x : ℕ) × (w - 1 - leadingZeros w u ≡ x) × (2 ^ x ≤ u) × (u < 2 ^ suc x) × P x
+holds-greatest {w} {P} {u} a n =
+    let t = leading-top w u (omega arith) (a .bound) in
     let x = t .0 in
-    let l : x < 16 = let e = t .1 in omega arith in
+    let l : x < w = let e = t .1 in omega arith in
     (x, (let e = t .1 in omega arith), t .2, t .3, a .only x l (has-top u x (t .2) (t .3)))
 
 -- where that is not all, another one
@@ -139,11 +142,11 @@ holds-another {P} {u} a x l k m =
     let e : bitOr (1 * 2 ^ x) r ≡ u = or-shifted 1 x r (omega arith) ∙ omega arith in
     (y, h, a .only y (omega arith) (rw e at (has-right (1 * 2 ^ x) r y (has-top r y (t .2) (t .3)))))
 
-module _ {P Q : ℕ → Type 0} where
-  pub holds-union : {u v : ℕ} → Holds P u → Holds Q v → Holds (λ x. P x ⊎ Q x) (bitOr u v)
+module _ {w : ℕ} {P Q : ℕ → Type 0} where
+  pub holds-union : {u v : ℕ} → HoldsIn w P u → HoldsIn w Q v → HoldsIn w (λ x. P x ⊎ Q x) (bitOr u v)
   holds-union {u} {v} a b =
       record {
-        bound = or-lt 16 u v (a .bound) (b .bound);
+        bound = or-lt w u v (a .bound) (b .bound);
         below = λ x. ⊎-elim (a .below x) (b .below x);
         has = λ x. ⊎-elim (λ p. has-left u v x (a .has x p)) (λ q. has-right u v x (b .has x q));
         only = λ x l h. ⊎-elim (λ e. inl (a .only x l e)) (λ e. inr (b .only x l e)) (has-or u v x h);
@@ -199,3 +202,38 @@ has-not v x b l n =
 
 pub not-has : (v x : ℕ) → v < 65536 → x < 16 → Has (65535 - v) x → Has v x → ⊥
 not-has v x b l h k = let e = complement-bit 16 x (65535 - v) v l (omega arith) in omega arith
+
+-- ---- all numbers below n
+
+pub full-has : (n x : ℕ) → x < n → Has (2 ^ n - 1) x
+full-has n x l =
+    let e = complement-bit n x (2 ^ n - 1) 0 l (omega (arith, pow-pos n)) in
+    let z : 0 / 2 ^ x ≡ 0 = div-eq-of-lt (pow-pos x) in
+    omega arith
+
+-- the word of n bits that has them all
+full : (n u : ℕ) → u < 2 ^ n → ((x : ℕ) → x < n → Has u x) → u ≡ 2 ^ n - 1
+full zero u b h = omega arith
+full (suc n) u b h =
+    let s = pow-suc 2 n in
+    let low : u / 1 % 2 ≡ 1 = h 0 (omega arith) in
+    let e = full n (u / 2) (omega arith) (λ x l. rw (halved u x) (h (suc x) (omega arith))) in
+    omega (arith, pow-pos n)
+
+-- The word of numbers below n tells whether it has them all.
+module _ {w n : ℕ} {P : ℕ → Type 0} {u : ℕ} (a : HoldsIn w P u) (low : (x : ℕ) → P x → x < n) where
+  narrow : u < 2 ^ n
+  narrow =
+      elim (ℕ-discrete u 0) [
+        | yes e ↦ rw e (pow-pos n)
+        | no z ↦
+            let g = holds-greatest a z in
+            let m : 2 ^ suc (g .0) ≤ 2 ^ n = pow-mono (low (g .0) (g .4)) in
+            omega (arith, g .3)
+      ]
+
+  pub holds-full : ((x : ℕ) → x < n → P x) → u ≡ 2 ^ n - 1
+  holds-full all = full n u narrow (λ x l. a .has x (all x l))
+
+  pub full-holds : n ≤ w → u ≡ 2 ^ n - 1 → (x : ℕ) → x < n → P x
+  full-holds k e x l = a .only x (omega arith) (rw e (full-has n x l))

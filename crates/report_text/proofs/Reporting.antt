@@ -51,7 +51,7 @@ header-refused f {h} {k} e d = go (fileRefusal f) refl (sym e ∙ d)
     go (suc n) q p = let z : suc n ≡ k = cc in record { by = sym z ∙ sym q; some = λ y. omega arith }
 
 pub refused-short : (f : List ℕ) {h : Header} {k : ℕ} → h ≡ headerOf f → h ≡ Refused k → k < 1000
-refused-short f e d = rw (header-refused f e d .by) (file-number (λ k. k < 1000) (λ k l. omega arith) f)
+refused-short f e d = rw (header-refused f e d .by) (file-number (λ k. k < 1000) (λ k l. omega arith) (omega arith) f)
 
 pub record HeaderCounts (f : List ℕ) (n i o : ℕ) : Type 0 where
   pub none : fileRefusal f ≡ 0

@@ -57,6 +57,6 @@ pub record AllLines (f line text : List ℕ) : Type 0 where
 abbrev pub AcceptedReport : List ℕ → List ℕ → Type 0
 AcceptedReport f text = AllLines f (coderLine (statesOf f) (inputsOf f) (outputsOf f)) text
 
--- The whole text on a file: the number of its refusal (1 to 6), or the lines.
+-- The whole text on a file: the number of its refusal, or the lines.
 abbrev pub ReportPromise : List ℕ → List ℕ → Type 0
 ReportPromise f text = upon (fileRefusal f) (λ k. text ≡ refusedText k) (AcceptedReport f text)

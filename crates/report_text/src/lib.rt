@@ -10,7 +10,7 @@ pub struct Text {
     pub len: usize,
 }
 
-// What the program `report` prints for a file: the refusal, 1 to 6, or the counts and the window, or the looped pair.
+// What the program `report` prints for a file: the file's refusal, or the counts and the window, or the looped pair.
 pub fn report(file: &[u8]) -> Text
     ensures { λ r. ⌜ ReportPromise (now (file .entry)) (textOf r) ⌝ }
     ensures { λ r. ⌜ Padded r ⌝ }

@@ -13,7 +13,7 @@ use Rattle.coder.specs.Table.{tableAt, machineIn}
 use Rattle.running.specs.declared.RunResult.{RunResult}
 use Rattle.running.specs.declared.RunResult.the-variants.{Refused, Done}
 
--- The run's refusal, in checking order: 1 to 6, then 7 (start state), 11 (some lent buffer is too short), 12 (an input letter).
+-- The run's refusal, in checking order: the file's, then 7 (start state), 11 (some lent buffer is too short), 12 (an input letter).
 -- Whether all lent buffers are long enough is an argument, since a call may lend more than one.
 unfoldable pub runRefusal : List ℕ → ℕ → List ℕ → Bool → ℕ
 runRefusal f s xs fits =

@@ -9,7 +9,7 @@ pub enum RunResult {
     Done { count: usize, end: usize },
 }
 
-// Runs the coder from a start state: writes an output letter for each input letter. Refusals 1 to 6, 7, 11, 12.
+// Runs the coder from a start state: writes an output letter for each input letter. The file's refusals, 7, 11, 12.
 pub fn run(file: &[u8], start: usize, input: &[u8], output: &mut [u8]) -> RunResult
     ensures { λ r. ⌜ RunPromise (now (file .entry)) start (now (input .entry)) (now (output .entry)) r (now (output .exit)) ⌝ }
 {

@@ -25,7 +25,7 @@ use Rattle.search.specs.declared.Verdict.the-variants.{Least, NoDecoder}
 use Rattle.search.specs.declared.SearchResult.{SearchResult}
 use Rattle.search.specs.declared.SearchResult.the-variants.{Refused, Found}
 
--- The call's refusal, in checking order: 1 to 6, 14 (the settle count p), then 11 (some lent buffer is too short).
+-- The call's refusal, in checking order: the file's, 14 (the settle count p), then 11 (some lent buffer is too short).
 unfoldable pub searchRefusal : List ℕ → ℕ → Bool → ℕ
 searchRefusal f p fits = first (fileRefusal f) (refuse (not (leb p maxSettle)) 14 (refuse (not fits) 11 0))
 

@@ -19,7 +19,7 @@ pub enum SearchResult {
 }
 
 // Finds the least window with a settle count that works for a coder in the default order, or the first looped pair where none does.
-// Refusals 1 to 6, 14, 11.
+// The file's refusals, 14, 11.
 pub fn search(file: &[u8], settle: usize, letters: &mut [u8]) -> SearchResult
     ensures { λ r. ⌜ SearchPromise defaultOrder (now (file .entry)) settle (now (letters .entry)) r (now (letters .exit)) ⌝ }
 {

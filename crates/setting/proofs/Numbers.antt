@@ -1,4 +1,4 @@
--- The two words that are written as numbers, by computed tests: all numbers below 16, and all but one.
+-- The two words that are written as numbers: all numbers below 16, and all but one, by computed tests.
 use mathlib.Core.Path.{_≡_, refl}
 use mathlib.Core.List.{List}
 use mathlib.Core.Bool.{Bool, true, cond}
@@ -8,6 +8,7 @@ use native.Mathlib.Omega.{arith}
 use lib.Dec.{eqb}
 use borrow.Author.Tests.{eqb-true, eq-eqb, ne-eqb}
 use Rattle.mealy.specs.Word.{Has, Holds}
+use Rattle.mealy.proofs.Words.{full-has}
 use Rattle.coder.specs.Refusal.{allBelow}
 use Rattle.coder.proofs.Refusals.{all-at}
 use Rattle.coder.proofs.Fill.{Filled}
@@ -15,19 +16,12 @@ use Rattle.setting.specs.Words.{ConflictsOf}
 
 -- ---- all numbers below 16
 
-abbrev allTest : ℕ → Bool
-allTest x = eqb (65535 / 2 ^ x % 2) 1
-
-all-tested : allBelow 16 allTest ≡ true
-unfolding allBelow
-all-tested = refl
-
 pub holds-all : Holds (λ x. x < 16) 65535
 holds-all =
     record {
       bound = omega arith;
       below = λ x p. p;
-      has = λ x p. eqb-true _ _ (all-at 16 allTest all-tested x p);
+      has = full-has 16;
       only = λ x m h. m;
     }
 

@@ -1,4 +1,4 @@
--- Reader and writer are inverses, and each coder within the limits has one file.
+-- Reader and writer are inverses, and each coder within the limits that names its whole alphabet has one file.
 use mathlib.Core.Path.{_≡_, refl, sym, ap, subst, _∙_}
 use mathlib.Core.Bool.{true}
 use mathlib.Core.List.{List, [], _∷_}
@@ -12,7 +12,7 @@ use Rattle.coder.specs.File.{statesOf, inputsOf, outputsOf, entriesOf, fileOf, 
 use Rattle.coder.specs.declared.Header as header
 use Rattle.coder.specs.declared.Header.{Header}
 use Rattle.coder.specs.declared.Header.the-variants.{Counts}
-use Rattle.coder.proofs.Accepted.{entries-accepted, file-entries}
+use Rattle.coder.proofs.Accepted.{entries-accepted, entries-high, coder-accepted, file-entries}
 use Rattle.coder.proofs.Inverse.{read-written, written-read, file-bytes}
 use Rattle.values.specs.declared.CountResult.{CountResult}
 use Rattle.values.specs.declared.CountResult.the-variants.{Done}
@@ -65,7 +65,7 @@ module _ (n i o : ℕ) (entries : List ℕ) (e : entriesRefusal n i o entries �
   small : FieldHolds (length (fileOf n i o entries))
   small =
       let a = entries-accepted n i o entries e in
-      omega (arith, length-file n i o entries, a .size, a .limits .entries-high)
+      omega (arith, length-file n i o entries, a .size, entries-high n i o (a .limits))
 
   one-file : OneFile n i o entries
   one-file = record {
@@ -140,5 +140,5 @@ reader-and-writer = record {
   written-read-from-C = written-from-C;
   read-written = rewritten;
   read-written-from-C = rewritten-from-C;
-  each-one-file = one-file;
+  each-one-file = λ n i o entries c. one-file n i o entries (coder-accepted n i o entries c);
 }

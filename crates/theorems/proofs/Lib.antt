@@ -1,5 +1,6 @@
 -- Theorems over the promises of several calls.
 pub mod Published
+pub mod Alphabet
 pub mod Counted
 pub mod Handing
 pub mod RoundTrip

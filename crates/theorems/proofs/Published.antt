@@ -11,6 +11,7 @@ use borrow.Author.Tests.{eq-eqb, ne-eqb, ltb-false, eqb-true}
 use Rattle.mealy.specs.LoopedPair.{LoopedPair}
 use Rattle.coder.specs.Refusal.{refuse, first, allBelow}
 use Rattle.coder.specs.Limits.{maxSide, maxSettle}
+use Rattle.coder.specs.Alphabet.{allNamed}
 use Rattle.coder.specs.File.{versionOf, countField, statesOf, inputsOf, outputsOf, entriesOf, inRange, entryInRange, entriesRefusal, fileRefusal}
 use Rattle.coder.proofs.Refusals.{both-right}
 use Rattle.running.specs.Run.{runRefusal}
@@ -23,14 +24,16 @@ use Rattle.writer.specs.Write.{writeRefusal}
 use Rattle.checker.specs.Check.{checkRefusal}
 use Rattle.theorems.specs.Published.{Bytes, longEnough, refusalOf, givenFile, givenRun, givenSearch, givenCheck, givenWindow, givenString, givenTable, givenWrite}
 
--- ---- numbers 1 to 6
+-- ---- numbers 1 to 6 and 15
 
-three-first :
-    (a b c : Bool) (x : ℕ) → refuse a 4 (refuse b 5 (refuse c 6 x)) ≡ first (refuse a 4 (refuse b 5 (refuse c 6 0))) x
-three-first true b c x = refl
-three-first false true c x = refl
-three-first false false true x = refl
-three-first false false false x = refl
+four-first :
+    (a b c d : Bool) (x : ℕ) →
+    refuse a 4 (refuse b 5 (refuse c 6 (refuse d 15 x))) ≡ first (refuse a 4 (refuse b 5 (refuse c 6 (refuse d 15 0)))) x
+four-first true b c d x = refl
+four-first false true c d x = refl
+four-first false false true d x = refl
+four-first false false false true x = refl
+four-first false false false false x = refl
 
 first-zero : (k : ℕ) → first k 0 ≡ k
 first-zero zero = refl
@@ -65,7 +68,8 @@ module _ (f : List ℕ) where
       (refuse (not (inRange (statesOf f) (inputsOf f) (outputsOf f))) 4
       (refuse (not (eqb (countField f) (3 + 2 * entries))) 5
       (refuse (not (allBelow entries (entryInRange (statesOf f) (outputsOf f) (entriesOf f)))) 6
-      x)))))
+      (refuse (not (allNamed (outputsOf f) entries (entriesOf f))) 15
+      x))))))
 
   file-first : (x : ℕ) → fileFirst x ≡ first (fileRefusal f) x
   unfolding fileRefusal entriesRefusal
@@ -79,8 +83,9 @@ module _ (f : List ℕ) where
       go false true false p q r = rw (p, q, r)
       go false true true p q r =
           rw (p, q, r, size-test (ltb-false _ _ p) (eqb-true _ _ r))
-          (three-first (not (inRange (statesOf f) (inputsOf f) (outputsOf f))) (not (eqb (length (entriesOf f)) (2 * entries)))
-          (not (allBelow entries (entryInRange (statesOf f) (outputsOf f) (entriesOf f)))) x)
+          (four-first (not (inRange (statesOf f) (inputsOf f) (outputsOf f))) (not (eqb (length (entriesOf f)) (2 * entries)))
+          (not (allBelow entries (entryInRange (statesOf f) (outputsOf f) (entriesOf f))))
+          (not (allNamed (outputsOf f) entries (entriesOf f))) x)
 
   pub file-published : fileRefusal f ≡ refusalOf (givenFile f)
   file-published = sym (file-first 0 ∙ first-zero (fileRefusal f))
@@ -104,7 +109,7 @@ module _ (f : List ℕ) where
   unfolding checkRefusal
   check-published p more = sym (rw (both-right, both-right) (file-first _))
 
-  -- 1 to 6, 8 and 14, in front of others
+  -- the file's numbers, 8 and 14, in front of others
   limits-first :
       (w : Window) (x : ℕ) →
       fileFirst
@@ -148,4 +153,6 @@ pub write-published :
     writeRefusal n i o entries (longEnough (givenWrite n i o entries before more .buffers)) ≡
     refusalOf (givenWrite n i o entries before more)
 unfolding writeRefusal entriesRefusal
-write-published n i o entries before more = sym (three-first (not (inRange n i o)) (not (eqb (length entries) (2 * (n * i)))) (not (allBelow (n * i) (entryInRange n o entries))) _)
+write-published n i o entries before more =
+    sym (four-first (not (inRange n i o)) (not (eqb (length entries) (2 * (n * i)))) (not (allBelow (n * i) (entryInRange n o entries)))
+    (not (allNamed o (n * i) entries)) _)

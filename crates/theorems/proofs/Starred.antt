@@ -25,8 +25,9 @@ use Rattle.mealy.proofs.PairStarts.{valid-after}
 use Rattle.mealy.proofs.LoopedPairs.{excludes}
 use Rattle.mealy.proofs.LeastWindows.{least-unique}
 use Rattle.coder.specs.Limits.{maxSettle}
-use Rattle.coder.specs.Refusal.{allBelow}
+use Rattle.coder.specs.Refusal.{allBelow, someBelow}
 use Rattle.coder.specs.BigEndian.{bigEndian}
+use Rattle.coder.specs.Alphabet.{named}
 use Rattle.coder.specs.File.{within, inRange, entryInRange, entriesRefusal, fileRefusal, fileOf, entryOf, statesOf, inputsOf, outputsOf, machineOf, settingOf, settingAfter}
 use Rattle.coder.specs.Table.{table, coderOf, tableAt}
 use Rattle.coder.proofs.Refusals.{true-false, both-true, all-at}
@@ -297,7 +298,7 @@ cases-hold (c ∷ cs) e =
     (z, claims-hold (c .file) z (c .claims) (u .0), cases-hold cs (u .1))
 
 passed : testCases starred ≡ true
-unfolding test entriesWord imageWord inStepsWord startsWord allStarts bigEndian checkRefusal windowRefusal tableRefusal runRefusal limitsRefusal leastTest laterOrFails worksTest agree allWords noEarlier firstTest validTest closesTest differentTest allBelow fileRefusal entriesRefusal inRange within entryInRange machineOf entryOf coderOf table tableAt decoded pass added add contribution gather unionOf answerOf leadingZeros hasKey isEntry over windowAt
+unfolding test entriesWord imageWord inStepsWord startsWord allStarts bigEndian checkRefusal windowRefusal tableRefusal runRefusal limitsRefusal leastTest laterOrFails worksTest agree allWords noEarlier firstTest validTest closesTest differentTest allBelow someBelow named fileRefusal entriesRefusal inRange within entryInRange machineOf entryOf coderOf table tableAt decoded pass added add contribution gather unionOf answerOf leadingZeros hasKey isEntry over windowAt
 passed = refl
 
 -- every starred case: its file is accepted, and all that is claimed of it holds

@@ -39,7 +39,7 @@ NotTen k = k ≡ 10 → ⊥
 limits-not-ten : (f : List ℕ) (w : Window) → NotTen (limitsRefusal f w)
 unfolding limitsRefusal
 limits-not-ten f w =
-    first-either NotTen (fileRefusal f) _ (file-number NotTen (λ k l e. omega arith) f)
+    first-either NotTen (fileRefusal f) _ (file-number NotTen (λ k l e. omega arith) (λ e. omega arith) f)
     (refuse-either NotTen (not (leb (w .before) maxSide && leb (w .after) maxSide)) 8 _ (λ e. omega arith)
     (refuse-either NotTen (not (leb (w .settle) maxSettle)) 14 0 (λ e. omega arith) (λ e. omega arith)))
 

@@ -1,11 +1,13 @@
 -- Reader and writer of coder files together (document 02, 3/13): reading what was written gives back the counts and the entries, writing
--- what was read gives the file, and each coder within the limits has one file. Over the promises of the calls.
+-- what was read gives the file, and each coder within the limits that names its whole alphabet (7/13) has one file. Over the promises of
+-- the calls.
 use mathlib.Core.Path.{_≡_}
 use mathlib.Core.List.{List}
 use Prim.Native.Nat.{ℕ, _≤_}
 use lib.ListN.{length, take}
 use Rattle.mealy.specs.Machine.{Letters}
-use Rattle.coder.specs.File.{statesOf, inputsOf, outputsOf, entriesOf, entriesRefusal, fileRefusal, headerOf, partOf, EntriesPart}
+use Rattle.coder.specs.File.{statesOf, inputsOf, outputsOf, entriesOf, fileRefusal, headerOf, partOf, EntriesPart}
+use Rattle.coder.specs.Accepted.{IsCoder}
 use Rattle.coder.specs.declared.Header.{Header}
 use Rattle.coder.specs.declared.Header.the-variants.{Counts}
 use Rattle.values.specs.declared.CountResult.{CountResult}
@@ -84,9 +86,9 @@ pub record OneFile (n i o : ℕ) (entries : List ℕ) : Type 0 where
       (before : List ℕ) (r : CountResult) (after : List ℕ) → length file ≤ length before →
       WritePromise n i o entries before r after → WroteFile file before r after
 
--- For each coder within the limits: none of the numbers 4 to 6 applies to its counts and entries.
+-- For each coder within the limits whose entries name its whole alphabet.
 abbrev pub EachOneFile : Type 0
-EachOneFile = (n i o : ℕ) (entries : List ℕ) → entriesRefusal n i o entries ≡ 0 → OneFile n i o entries
+EachOneFile = (n i o : ℕ) (entries : List ℕ) → IsCoder n i o entries → OneFile n i o entries
 
 -- ---- all of it
 

@@ -1,5 +1,6 @@
 -- What the theorems over several calls conclude.
 pub mod Published
+pub mod Alphabet
 pub mod Handed
 pub mod RoundTrip
 pub mod Files

@@ -1,5 +1,5 @@
 -- The published list of refusals, once for all calls: its numbers in checking order and when each applies (document 01, "Numbers of
--- refusal, in checking order"; document 02, 3/13, for the writer, and 6/13 for number 14); and what each call is given.
+-- refusal, in checking order"; document 02, 3/13, for the writer, 6/13 for number 14 and 7/13 for number 15); and what each call is given.
 use Prim.Native.Nat.{ℕ, _+_, _-_, _*_}
 use mathlib.Core.Bool.{Bool, true, not, _&&_}
 use mathlib.Core.List.{List, [], _∷_, _++_}
@@ -8,6 +8,7 @@ use lib.Dec.{ltb, leb, eqb}
 use Rattle.mealy.specs.LoopedPair.{LoopedPair, letters}
 use Rattle.coder.specs.Refusal.{refuse, allBelow, lettersBelow}
 use Rattle.coder.specs.Limits.{maxSide, maxSettle}
+use Rattle.coder.specs.Alphabet.{allNamed}
 use Rattle.coder.specs.File.{versionOf, countField, statesOf, inputsOf, outputsOf, entriesOf, fileOf, inRange, entryInRange}
 use Rattle.values.specs.Window.{size}
 use Rattle.values.specs.declared.Window.{Window}
@@ -38,6 +39,10 @@ inputsGiven (parts n i o entries) = i
 abbrev pub outputsGiven : Source → ℕ
 outputsGiven (file f) = outputsOf f
 outputsGiven (parts n i o entries) = o
+
+abbrev pub entriesGiven : Source → List ℕ
+entriesGiven (file f) = entriesOf f
+entriesGiven (parts n i o entries) = entries
 
 -- What a call is given. A list is empty where the call is given nothing of its sort: no number about that applies then.
 pub record Given : Type 0 where
@@ -99,11 +104,15 @@ coderRules (file f) =
     partsRules (statesOf f) (inputsOf f) (outputsOf f) (entriesOf f) (eqb (countField f) (3 + 2 * (statesOf f * inputsOf f)))
 coderRules (parts n i o entries) = partsRules n i o entries (eqb (length entries) (2 * (n * i)))
 
-abbrev pub published : Given → List Rule
-published g =
+-- Number 15, of either: some letter below O is the output letter of no entry (document 02, 7/13).
+abbrev pub alphabetRule : Source → Rule
+alphabetRule c = record { number = 15; applies = not (allNamed (outputsGiven c) (statesGiven c * inputsGiven c) (entriesGiven c)) }
+
+-- The numbers after these, of what a call is given besides the coder.
+abbrev pub argumentRules : Given → List Rule
+argumentRules g =
     let c = g .coder in
-    coderRules c ++
-    (record { number = 7; applies = not (lettersBelow (statesGiven c) (g .starts)) } ∷
+    record { number = 7; applies = not (lettersBelow (statesGiven c) (g .starts)) } ∷
     record { number = 8; applies = not (allWithin maxSide (g .sides)) } ∷
     record { number = 14; applies = not (allWithin maxSettle (g .settles)) } ∷
     record { number = 9; applies = not (lengthsRight (g .counted)) } ∷
@@ -111,7 +120,10 @@ published g =
     record { number = 11; applies = not (longEnough (g .buffers)) } ∷
     record { number = 12; applies = not (lettersBelow (inputsGiven c) (g .inputs)) } ∷
     record { number = 13; applies = not (lettersBelow (outputsGiven c) (g .received)) } ∷
-    [])
+    []
+
+abbrev pub published : Given → List Rule
+published g = coderRules (g .coder) ++ (alphabetRule (g .coder) ∷ argumentRules g)
 
 -- The number of the first rule of a list that applies; 0 where none does.
 abbrev pub firstNumber : List Rule → ℕ

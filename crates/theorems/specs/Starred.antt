@@ -1,6 +1,6 @@
 -- The starred cases of document 01 ("Example coders"): one table of coder files and what is claimed of each; the windows in both orders,
 -- with those of the coders G and H that document 02, 1/13, 5/13 and 6/13, name, and the first looped pairs, with the one of coder C that
--- 2/13 names. A claim on a call says that every outcome that the call promises on this file is the one named.
+-- 2/13 names. Coder F, which is not starred, stands here because 7/13 says that every example is accepted. A claim on a call says that every outcome that the call promises on this file is the one named.
 use Prim.Native.Nat.{ℕ, _≤_, _<_}
 use mathlib.Core.Path.{_≡_}
 use mathlib.Core.Logic.{_≢_}
@@ -112,6 +112,11 @@ starred =
     record {
       file = 1 ∷ 0 ∷ 11 ∷ 2 ∷ 2 ∷ 2 ∷ 0 ∷ 0 ∷ 1 ∷ 1 ∷ 0 ∷ 1 ∷ 1 ∷ 0 ∷ [];
       claims = no-decoder 0 1 (0 ∷ 1 ∷ 0 ∷ 1 ∷ 0 ∷ 1 ∷ []) ∷ different-outputs ∷ [];
+    } ∷
+    -- F
+    record {
+      file = 1 ∷ 0 ∷ 15 ∷ 3 ∷ 2 ∷ 4 ∷ 1 ∷ 0 ∷ 2 ∷ 0 ∷ 1 ∷ 0 ∷ 1 ∷ 1 ∷ 2 ∷ 2 ∷ 2 ∷ 3 ∷ [];
+      claims = counts 3 2 4 ∷ window defaultOrder 1 0 0 ∷ window FewestLetters 1 0 0 ∷ [];
     } ∷
     -- G
     record {

@@ -10,7 +10,7 @@ use borrow.Author.Tests.{leb-true, le-leb}
 use Rattle.coder.specs.BigEndian.{bigEndian}
 use Rattle.coder.specs.File.{fileOf, entriesRefusal}
 use Rattle.coder.proofs.Refusals.{refuse-not, first-none, both-true, refused-answer}
-use Rattle.coder.proofs.Accepted.{entries-accepted}
+use Rattle.coder.proofs.Accepted.{entries-accepted, entries-high}
 use Rattle.values.specs.declared.CountResult.{CountResult}
 use Rattle.values.specs.declared.CountResult.the-variants.{Refused, Done}
 use Rattle.placing.specs.Placed.{Placed}
@@ -38,7 +38,7 @@ module _ {n i o : ℕ} {entries before : List ℕ} (q : WriteAsked n i o entries
         states = omega (arith, a .limits .states-high);
         inputs = omega (arith, a .limits .inputs-high);
         outputs = omega (arith, a .limits .outputs-high);
-        count = omega (arith, a .size, a .limits .entries-high);
+        count = omega (arith, a .size, entries-high n i o (a .limits));
       }
 
   module _ {h : List ℕ} (e : h ≡ firstSix n i o (length entries)) where

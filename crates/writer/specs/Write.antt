@@ -12,7 +12,7 @@ use Rattle.placing.specs.Placed.{withFront}
 use Rattle.values.specs.declared.CountResult.{CountResult}
 use Rattle.values.specs.declared.CountResult.the-variants.{Refused, Done}
 
--- The refusal, in checking order: 4 to 6 of the counts and the entry bytes, then 11 (some lent buffer is too short). Whether all lent
+-- The refusal, in checking order: 4 to 6 and 15 of the counts and the entry bytes, then 11 (some lent buffer is too short). Whether all lent
 -- buffers are long enough is an argument, since a call may lend more than one.
 unfoldable pub writeRefusal : ℕ → ℕ → ℕ → List ℕ → Bool → ℕ
 writeRefusal n i o entries fits = first (entriesRefusal n i o entries) (refuse (not fits) 11 0)

@@ -4,7 +4,7 @@ use values::CountResult;
 
 pub mod inner; // inner.rt: the writer's refusal, and the file of a checked call
 
-// Writes the file of three counts and their entry bytes. Refusals 4 to 6, 11.
+// Writes the file of three counts and their entry bytes. Refusals 4 to 6, 15, 11.
 pub fn write(
     states: usize,
     inputs: usize,

@@ -1,9 +1,12 @@
-// Refusals 1 to 6 of a coder file, and the part of it that holds the entries.
+// Refusals 1 to 6 and 15 of a coder file, and the part of it that holds the entries.
 ghost use mathlib.Core.Path.{_≡_};
 ghost use Prim.Native.Nat.{_+_, _*_, _<_, _≤_};
 ghost use lib.ListN.{length};
 ghost use denote.Ref.{ptr};
 ghost use Rattle.coder.specs.Refusal.{allBelow};
+ghost use Rattle.mealy.specs.Word.{HoldsIn};
+ghost use Rattle.coder.specs.Limits.{maxOutputs};
+ghost use Rattle.coder.specs.Alphabet.{allNamed, NamingAsked, NamedBy};
 ghost use Rattle.coder.specs.File.{within, inRange, entryInRange, entriesRefusal, countField, entriesOf, fileRefusal};
 use crate::inner::bytes::byte;
 use crate::inner::tables::Coder;
@@ -58,7 +61,29 @@ fn entries_in_range(states: usize, outputs: usize, entries: &[u8], n: usize) -> 
     true
 }
 
-// Refusals 4 to 6 of three counts and entry bytes, or 0.
+// The output letters that the first n entries name, as a word: bit y is set where y is one.
+fn named_letters(entries: &[u8], n: usize) -> u64
+    requires { ⌜ NamingAsked maxOutputs n (now entries) ⌝ }
+    ensures { λ r. ⌜ HoldsIn maxOutputs (NamedBy n (now (entries .entry))) r ⌝ }
+{
+    let mut letters = 0u64;
+    let mut k = 0;
+    while k < n {
+        letters |= 1u64 << byte(entries, 2 * k + 1);
+        k += 1;
+    }
+    letters
+}
+
+// Whether the first n entries name every output letter: the word has all bits below `outputs`.
+fn all_named(outputs: usize, entries: &[u8], n: usize) -> bool
+    requires { ⌜ NamingAsked outputs n (now entries) ⌝ }
+    ensures { λ r. ⌜ r ≡ allNamed outputs n (now (entries .entry)) ⌝ }
+{
+    named_letters(entries, n) == u64::MAX >> (Coder::OUTPUTS - outputs)
+}
+
+// Refusals 4 to 6 and 15 of three counts and entry bytes, or 0.
 pub fn entries_refusal(states: usize, inputs: usize, outputs: usize, entries: &[u8]) -> usize
     ensures { λ r. ⌜ r ≡ entriesRefusal states inputs outputs (now (entries .entry)) ⌝ }
 {
@@ -68,7 +93,10 @@ pub fn entries_refusal(states: usize, inputs: usize, outputs: usize, entries: &[
             return 5;
         }
         if entries_in_range(states, outputs, entries, n) {
-            return 0;
+            if all_named(outputs, entries, n) {
+                return 0;
+            }
+            return 15;
         }
         return 6;
     }
@@ -92,7 +120,7 @@ fn count_field(file: &[u8]) -> usize
     byte(file, 1) * 256 + byte(file, 2)
 }
 
-// Refusals 1 to 6, or 0.
+// Refusals 1 to 6 and 15, or 0.
 pub fn refusal(file: &[u8]) -> usize
     ensures { λ r. ⌜ r ≡ fileRefusal (now (file .entry)) ⌝ }
 {

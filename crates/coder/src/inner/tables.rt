@@ -88,7 +88,7 @@ fn entry_table(states: usize, inputs: usize, entries: &[u8], offset: usize) -> [
 }
 
 impl Coder {
-    // The coder of counts and entries that refusals 4 to 6 pass.
+    // The coder of counts and entries that refusals 4 to 6 and 15 pass.
     pub fn from_entries(states: usize, inputs: usize, outputs: usize, entries: &[u8]) -> Self
         requires { ⌜ entriesRefusal states inputs outputs (now entries) ≡ 0 ⌝ }
         ensures { λ r. ⌜ r ≡ coderOfEntries states inputs outputs (now (entries .entry)) ⌝ }

@@ -11,7 +11,7 @@ use table_size::inner::allowed;
 use table_size::inner::size;
 use values::Window;
 
-// 1 to 6, 8 and 14, or 0.
+// The file's, 8 and 14, or 0.
 pub fn limits(file: &[u8], w: Window) -> usize
     ensures { λ r. ⌜ r ≡ limitsRefusal (now (file .entry)) w ⌝ }
 {

@@ -1,4 +1,4 @@
--- `refusal` meets its contract: 4 to 6 of the counts and the entry bytes, then 11.
+-- `refusal` meets its contract: 4 to 6 and 15 of the counts and the entry bytes, then 11.
 use mathlib.Core.Path.{_≡_}
 use borrow.Author.Needs.{needs}
 use denote.Ref.{now}

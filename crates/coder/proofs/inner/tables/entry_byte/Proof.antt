@@ -4,7 +4,7 @@ use native.Mathlib.Omega.{arith}
 use lib.ListN.{length}
 use denote.Ref.{now}
 use Rattle.coder.specs.File.{entryOf}
-use Rattle.coder.proofs.Tables.{entry-place}
+use Rattle.coder.proofs.EntryPlaces.{entry-place}
 use Rattle.coder.proofs.Refusals.{tests}
 use Rattle.coder.proofs.inner.tables.entry_byte.Statement.{statement}
 use Rattle.coder.proofs.inner.tables.entry_byte.Tie as tie

@@ -2,7 +2,7 @@
 use Prim.Native.Nat.{_+_, _*_}
 use mathlib.Core.Path.{refl}
 use borrow.Author.Needs.{needs}
-use Rattle.fitting.proofs.Making.{holds-shifted}
+use Rattle.mealy.proofs.Words.{holds-shifted}
 use Rattle.mealy.proofs.Words.{holds-none}
 use Rattle.fitting.proofs.inner.sets.on_letter.Statement.{statement}
 use Rattle.fitting.proofs.inner.sets.on_letter.Tie as tie

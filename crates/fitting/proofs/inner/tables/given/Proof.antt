@@ -3,7 +3,7 @@ use mathlib.Core.Path.{refl, sym}
 use borrow.Author.Needs.{needs}
 use native.Mathlib.Omega.{arith}
 use Rattle.mealy.proofs.Words.{holds-none}
-use Rattle.fitting.proofs.Making.{holds-shifted}
+use Rattle.mealy.proofs.Words.{holds-shifted}
 use Rattle.fitting.proofs.inner.tables.given.Statement.{statement}
 use Rattle.fitting.proofs.inner.tables.given.Tie as tie
 
