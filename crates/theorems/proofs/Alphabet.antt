@@ -1,20 +1,19 @@
 -- A call is refused with 15 exactly where no number from 1 to 6 applies and its coder's entries do not name the whole alphabet.
 use Prim.Native.Nat.{ℕ, zero, suc, _*_, _≤_}
 use mathlib.Core.Path.{_≡_, refl, sym, _∙_}
-use mathlib.Core.Bool.{Bool, true, false, not, _&&_}
-use mathlib.Core.List.{List, [], _∷_, _++_}
+use mathlib.Core.Bool.{Bool, true, false, not}
+use mathlib.Core.List.{_∷_}
 use native.Mathlib.Omega.{arith}
-use lib.Dec.{eqb}
-use borrow.Author.Tests.{eqb-false, not-true}
 use Rattle.coder.specs.Refusal.{Judges, refuse, first, allBelow, someBelow}
 use Rattle.coder.specs.Alphabet.{named, allNamed}
 use Rattle.coder.specs.File.{within, inRange, entryInRange, machineOf, entriesRefusal}
-use Rattle.coder.proofs.Refusals.{both-true, refuse-either, refuse-not, first-none}
+use Rattle.coder.proofs.Refusals.{refuse-not, first-none}
 use Rattle.coder.proofs.Judging.{judges-not, judges-same}
 use Rattle.coder.proofs.Alphabet.{alphabet-judges, letters-few}
 use Rattle.coder.proofs.Accepted.{entries-accepted, coder-accepted}
-use Rattle.theorems.specs.Published.{Source, file, parts, statesGiven, inputsGiven, outputsGiven, entriesGiven, Given, Rule, coderRules, alphabetRule, argumentRules, firstNumber, refusalOf}
+use Rattle.theorems.specs.Published.{Source, file, parts, statesGiven, inputsGiven, outputsGiven, entriesGiven, Given, coderRules, alphabetRule, argumentRules, firstNumber, refusalOf}
 use Rattle.theorems.specs.Alphabet.{AlphabetNamed, WholeAlphabet}
+use Rattle.theorems.proofs.Rules.{without, number-other, first-joined}
 
 -- ---- the coder
 
@@ -29,30 +28,6 @@ few (file f) = letters-few _ _ _ _
 few (parts n i o entries) = letters-few n i o entries
 
 -- ---- the list
-
--- no number of a list is this one
-abbrev without : ℕ → List Rule → Bool
-without k [] = true
-without k (r ∷ rs) = not (eqb (r .number) k) && without k rs
-
-number-other : (k : ℕ) (rs : List Rule) → without k rs ≡ true → (k ≡ 0 → ⊥) → firstNumber rs ≡ k → ⊥
-number-other k [] t z = λ e. z (sym e)
-number-other k (r ∷ rs) t z =
-    let b = both-true (not (eqb (r .number) k)) (without k rs) t in
-    refuse-either (λ n. n ≡ k → ⊥) (r .applies) (r .number) (firstNumber rs) (eqb-false _ _ (not-true _ (b .0))) (number-other k rs (b .1) z)
-
-first-joined : (rs ss : List Rule) → without 0 rs ≡ true → firstNumber (rs ++ ss) ≡ first (firstNumber rs) (firstNumber ss)
-first-joined [] ss t = refl
-first-joined (r ∷ rs) ss t =
-    let b = both-true (not (eqb (r .number) 0)) (without 0 rs) t in
-    go (r .applies) (r .number) (eqb-false _ _ (not-true _ (b .0))) (first-joined rs ss (b .1))
-  where
-    go :
-        (a : Bool) (k : ℕ) → (k ≡ 0 → ⊥) → firstNumber (rs ++ ss) ≡ first (firstNumber rs) (firstNumber ss) →
-        refuse a k (firstNumber (rs ++ ss)) ≡ first (refuse a k (firstNumber rs)) (firstNumber ss)
-    go true zero z e = absurd (z refl)
-    go true (suc k) z e = refl
-    go false k z e = e
 
 numbers : (c : Source) → (without 0 (coderRules c) ≡ true) × (without 15 (coderRules c) ≡ true)
 numbers (file f) = (refl, refl)

@@ -1,4 +1,5 @@
 -- Theorems over the promises of several calls.
+pub mod Rules
 pub mod Published
 pub mod Alphabet
 pub mod Counted

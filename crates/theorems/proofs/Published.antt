@@ -1,7 +1,7 @@
 -- Each call is refused as the published list says, for what the call is given.
 use mathlib.Core.Path.{_≡_, refl, sym, ap, _∙_}
 use mathlib.Core.Bool.{Bool, true, false, not, _&&_}
-use mathlib.Core.List.{List}
+use mathlib.Core.List.{List, [], _∷_, _++_}
 use Prim.Native.Nat.{ℕ, zero, suc, _+_, _-_, _*_, _≤_}
 use native.Mathlib.Decide.{ℕ-discrete}
 use native.Mathlib.Omega.{arith}
@@ -22,18 +22,20 @@ use Rattle.decoder.specs.Refusal.{limitsRefusal, windowRefusal, stringRefusal, 
 use Rattle.search.specs.Search.{searchRefusal}
 use Rattle.writer.specs.Write.{writeRefusal}
 use Rattle.checker.specs.Check.{checkRefusal}
-use Rattle.theorems.specs.Published.{Bytes, longEnough, refusalOf, givenFile, givenRun, givenSearch, givenCheck, givenWindow, givenString, givenTable, givenWrite}
+use Rattle.theorems.proofs.Rules.{first-before}
+use Rattle.theorems.specs.Published.{Bytes, parts, coderRules, alphabetRule, firstNumber, longEnough, refusalOf, givenFile, givenRun, givenSearch, givenCheck, givenWindow, givenString, givenTable, givenWrite}
 
 -- ---- numbers 1 to 6 and 15
 
-four-first :
-    (a b c d : Bool) (x : ℕ) →
-    refuse a 4 (refuse b 5 (refuse c 6 (refuse d 15 x))) ≡ first (refuse a 4 (refuse b 5 (refuse c 6 (refuse d 15 0)))) x
-four-first true b c d x = refl
-four-first false true c d x = refl
-four-first false false true d x = refl
-four-first false false false true x = refl
-four-first false false false false x = refl
+-- counts and entry bytes, in front of others
+parts-first :
+    (n i o : ℕ) (entries : List ℕ) (x : ℕ) →
+    let c = parts n i o entries in
+    firstNumber (coderRules c ++ (alphabetRule c ∷ record { number = x; applies = true } ∷ [])) ≡ first (entriesRefusal n i o entries) x
+unfolding entriesRefusal
+parts-first n i o entries x =
+    let c = parts n i o entries in
+    first-before (coderRules c ++ (alphabetRule c ∷ [])) x refl
 
 first-zero : (k : ℕ) → first k 0 ≡ k
 first-zero zero = refl
@@ -83,9 +85,7 @@ module _ (f : List ℕ) where
       go false true false p q r = rw (p, q, r)
       go false true true p q r =
           rw (p, q, r, size-test (ltb-false _ _ p) (eqb-true _ _ r))
-          (four-first (not (inRange (statesOf f) (inputsOf f) (outputsOf f))) (not (eqb (length (entriesOf f)) (2 * entries)))
-          (not (allBelow entries (entryInRange (statesOf f) (outputsOf f) (entriesOf f))))
-          (not (allNamed (outputsOf f) entries (entriesOf f))) x)
+          (parts-first (statesOf f) (inputsOf f) (outputsOf f) (entriesOf f) x)
 
   pub file-published : fileRefusal f ≡ refusalOf (givenFile f)
   file-published = sym (file-first 0 ∙ first-zero (fileRefusal f))
@@ -119,13 +119,11 @@ module _ (f : List ℕ) where
   limits-first w x =
       rw (both-right (leb (w .after) maxSide), both-right (leb (w .settle) maxSettle))
       (file-first _
-      ∙ ap (first (fileRefusal f)) (two (leb (w .before) maxSide && leb (w .after) maxSide) (leb (w .settle) maxSettle))
+      ∙ ap (first (fileRefusal f))
+      (first-before
+      (record { number = 8; applies = not (leb (w .before) maxSide && leb (w .after) maxSide) } ∷ record { number = 14; applies = not (leb (w .settle) maxSettle) } ∷ [])
+      x refl)
       ∙ sym (first-first (fileRefusal f) _ x))
-    where
-      two : (t u : Bool) → refuse (not t) 8 (refuse (not u) 14 x) ≡ first (refuse (not t) 8 (refuse (not u) 14 0)) x
-      two true true = refl
-      two true false = refl
-      two false u = refl
 
   pub window-published :
       (w : Window) (received : List ℕ) (more : List Bytes) →
@@ -152,7 +150,5 @@ pub write-published :
     (n i o : ℕ) (entries before : List ℕ) (more : List Bytes) →
     writeRefusal n i o entries (longEnough (givenWrite n i o entries before more .buffers)) ≡
     refusalOf (givenWrite n i o entries before more)
-unfolding writeRefusal entriesRefusal
-write-published n i o entries before more =
-    sym (four-first (not (inRange n i o)) (not (eqb (length entries) (2 * (n * i)))) (not (allBelow (n * i) (entryInRange n o entries)))
-    (not (allNamed o (n * i) entries)) _)
+unfolding writeRefusal
+write-published n i o entries before more = sym (parts-first n i o entries _)

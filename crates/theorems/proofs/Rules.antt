@@ -1,0 +1,40 @@
+-- Lists of rules of the published list: which numbers they can give, and two lists one after the other.
+use Prim.Native.Nat.{ℕ, zero, suc}
+use mathlib.Core.Path.{_≡_, refl, sym}
+use mathlib.Core.Bool.{Bool, true, false, not, _&&_}
+use mathlib.Core.List.{List, [], _∷_, _++_}
+use lib.Dec.{eqb}
+use borrow.Author.Tests.{eqb-false, not-true}
+use Rattle.coder.specs.Refusal.{refuse, first}
+use Rattle.coder.proofs.Refusals.{both-true, refuse-either}
+use Rattle.theorems.specs.Published.{Rule, firstNumber}
+
+-- no number of a list is this one
+abbrev pub without : ℕ → List Rule → Bool
+without k [] = true
+without k (r ∷ rs) = not (eqb (r .number) k) && without k rs
+
+-- it is not the first that applies then
+pub number-other : (k : ℕ) (rs : List Rule) → without k rs ≡ true → (k ≡ 0 → ⊥) → firstNumber rs ≡ k → ⊥
+number-other k [] t z = λ e. z (sym e)
+number-other k (r ∷ rs) t z =
+    let b = both-true (not (eqb (r .number) k)) (without k rs) t in
+    refuse-either (λ n. n ≡ k → ⊥) (r .applies) (r .number) (firstNumber rs) (eqb-false _ _ (not-true _ (b .0))) (number-other k rs (b .1) z)
+
+-- of two lists, the first number of the one and, where that gives none, of the other
+pub first-joined : (rs ss : List Rule) → without 0 rs ≡ true → firstNumber (rs ++ ss) ≡ first (firstNumber rs) (firstNumber ss)
+first-joined [] ss t = refl
+first-joined (r ∷ rs) ss t =
+    let b = both-true (not (eqb (r .number) 0)) (without 0 rs) t in
+    go (r .applies) (r .number) (eqb-false _ _ (not-true _ (b .0))) (first-joined rs ss (b .1))
+  where
+    go :
+        (a : Bool) (k : ℕ) → (k ≡ 0 → ⊥) → firstNumber (rs ++ ss) ≡ first (firstNumber rs) (firstNumber ss) →
+        refuse a k (firstNumber (rs ++ ss)) ≡ first (refuse a k (firstNumber rs)) (firstNumber ss)
+    go true zero z e = absurd (z refl)
+    go true (suc k) z e = refl
+    go false k z e = e
+
+-- a list in front of a number
+pub first-before : (rs : List Rule) (x : ℕ) → without 0 rs ≡ true → firstNumber (rs ++ (record { number = x; applies = true } ∷ [])) ≡ first (firstNumber rs) x
+first-before rs x t = first-joined rs (record { number = x; applies = true } ∷ []) t
