@@ -211,6 +211,26 @@ void change_entry(coder_file *f)
     renumber_letters(f);
 }
 
+/* ---- faults ---- */
+
+/* A file too short; one byte changed; a letter more. */
+size_t make_faulty(const coder_file *f, size_t fault, coder_file *g)
+{
+    static const struct {
+        size_t number, place;
+        uint8_t byte;
+    } changes[FILE_FAULTS] = {{1, 0, 1},  {2, 0, 2},  {3, 2, 0},  {4, 3, 17},
+                              {5, 4, 1},  {6, 6, 16}, {6, 7, 64}, {15, 5, 0}};
+
+    *g = *f;
+    g->bytes[changes[fault].place] = changes[fault].byte;
+    if (changes[fault].number == 1)
+        g->len = 5;
+    if (changes[fault].number == 15)
+        g->bytes[5] = (uint8_t)(f->bytes[5] + 1);
+    return changes[fault].number;
+}
+
 /* ---- lines ---- */
 
 void make_constant_line(coder_file *f, size_t line, const coder_file *end)
@@ -243,8 +263,8 @@ void make_line_like_g(coder_file *f, size_t line)
 
 /* ---- chains ---- */
 
-/* Output letters of all chains while they are made: 0 for the shift, d for turn d; the padding comes
-   after. At the end they are renumbered. */
+/* Output letters of all chains while they are made: 0 for the shift, d for turn d; the padding
+   comes after. At the end they are renumbered. */
 enum { NO_ENTRY = 255 };
 
 size_t chain_pairs(size_t states, size_t turns)

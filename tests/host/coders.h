@@ -62,6 +62,11 @@ void make_constant_line(coder_file *f, size_t line, const coder_file *end);
    stay: one puts out 0 or 1 by its letter, the other 2 or 3. With two states it is coder G. */
 void make_line_like_g(coder_file *f, size_t line);
 
+/* The file with one fault, the faults in checking order of their numbers; returns the number. The
+   coder has more than one input letter. */
+enum { FILE_FAULTS = 8, FAULTS_BEFORE_15 = 7 };
+size_t make_faulty(const coder_file *f, size_t fault, coder_file *g);
+
 /* One entry of the file made anew at random, and the letters renumbered. */
 void change_entry(coder_file *f);
 

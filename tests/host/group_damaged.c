@@ -82,11 +82,12 @@ static void damage_entry(const arguments *a, size_t byte, size_t limit)
 static void damage_alphabet(const arguments *a)
 {
     size_t entries = a->file_len > 7 ? (a->file_len - 6) / 2 : 1;
+    size_t outputs = file_room[5] ? file_room[5] : 1;
 
     if (random_below(2))
         file_room[5]++;
     else
-        file_room[7 + 2 * random_below(entries)] = (uint8_t)random_below(file_room[5] ? file_room[5] : 1);
+        file_room[7 + 2 * random_below(entries)] = (uint8_t)random_below(outputs);
 }
 
 static void damage_file(arguments *a)

@@ -64,29 +64,19 @@ static void beside(const arguments *a, size_t number, int comes_first)
     known_refusal(&b, comes_first ? number : 14);
 }
 
-/* The numbers of the file: a file too short, or one with one byte changed; for 15, a letter more. */
+/* The numbers of the file. */
 static void beside_file(enum call call, const coder_file *f)
 {
-    static const struct {
-        size_t number, place;
-        uint8_t byte;
-    } rows[5] = {{2, 0, 2}, {3, 2, 0}, {4, 3, 17}, {5, 4, 1}, {6, 6, 16}};
     arguments a = accepted(call, f);
-    coder_file changed;
-    size_t k;
+    coder_file faulty;
+    size_t k, number;
 
-    a.file_len = 5;
-    beside(&a, 1, 1);
-    a.file_len = f->len;
-    a.file = changed.bytes;
-    for (k = 0; k < 5; k++) {
-        changed = *f;
-        changed.bytes[rows[k].place] = rows[k].byte;
-        beside(&a, rows[k].number, 1);
+    a.file = faulty.bytes;
+    for (k = 0; k < FILE_FAULTS; k++) {
+        number = make_faulty(f, k, &faulty);
+        a.file_len = faulty.len;
+        beside(&a, number, 1);
     }
-    changed = *f;
-    changed.bytes[5]++;
-    beside(&a, 15, 1);
 }
 
 /* 8 comes before 14; 9 to 13 come after it. */

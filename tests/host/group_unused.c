@@ -1,7 +1,7 @@
 /* Output letters that no entry names (document 02, 7/13), refused with 15 by every call: all small
-   tables of entries; the examples with letters more or renamed; a letter that one entry alone names,
-   at every place; each letter left out for every O; as many letters as entries, and one more; next
-   states, which name no letter; 15 beside each other number. */
+   tables of entries; the examples with letters more or renamed; a letter that one entry alone
+   names, at every place; each letter left out for every O; as many letters as entries, and one
+   more; next states, which name no letter; 15 beside each other number. */
 #include "calls.h"
 #include "case_texts.h"
 #include "groups.h"
@@ -29,8 +29,8 @@ static size_t letters_named(const coder_file *f)
     return count;
 }
 
-/* Arguments that only the coder can be refused for, with room for each other thing: one letter 0, the
-   window 0 0, the pair of three letters 0 from state 0. */
+/* Arguments that only the coder can be refused for, with room for each other thing: one letter 0,
+   the window 0 0, the pair of three letters 0 from state 0. */
 static arguments on_coder(enum call call, const coder_file *f)
 {
     arguments a = plain(call, f);
@@ -58,7 +58,7 @@ static void every_call(const coder_file *f, size_t number)
     }
 }
 
-/* The same from C, and by the library's own reader, writer and searches in both orders, in cases. */
+/* The same, and in cases by the library's own reader, writer and searches in both orders. */
 static void every_way(const coder_file *f, size_t number)
 {
     const size_t counts[3] = {f->bytes[3], f->bytes[4], f->bytes[5]};
@@ -114,8 +114,8 @@ static void more_letters(const coder_file *f)
     }
 }
 
-/* The entries of a letter get another letter one after the other, the first entries first or last: 15
-   when none is left. */
+/* The entries of a letter get another letter one after the other, the first entries first or last:
+   15 when none is left. */
 static void renamed_letters(const coder_file *f, int last_first)
 {
     size_t letter, left, j, k;
@@ -176,8 +176,8 @@ static void each_letter_left_out(size_t outputs)
     }
 }
 
-/* 64 letters, those from 1 on named once each at random entries, and the rest 0. One of them renamed:
-   15. All that are 0 renamed: 15. */
+/* 64 letters, those from 1 on named once each at random entries, and the rest 0. One of them
+   renamed: 15. All that are 0 renamed: 15. */
 static void each_named_once(void)
 {
     size_t at[MOST_OUTPUTS], letter, k;
@@ -228,7 +228,8 @@ static void letters_and_entries(size_t states, size_t inputs)
 
 /* ---- next states ---- */
 
-/* The next states are all numbers below O, and so are the letters but one; with that one, accepted. */
+/* The next states are all numbers below O, and so are the letters but one: 15. With that one,
+   accepted. */
 static void next_states(size_t outputs)
 {
     size_t letter, k;
@@ -256,6 +257,7 @@ static void beside(const arguments *a, size_t number, int comes_first)
     arguments b = *a;
 
     known_refusal(a, number);
+    memset(&g, 0, sizeof g);
     memcpy(g.bytes, a->file, a->file_len);
     g.bytes[5]++;
     b.file = g.bytes;
@@ -265,28 +267,22 @@ static void beside(const arguments *a, size_t number, int comes_first)
 
 static void beside_earlier(enum call call, const coder_file *f)
 {
-    static const struct {
-        size_t number, place;
-        uint8_t byte;
-    } rows[5] = {{2, 0, 2}, {3, 2, 0}, {4, 3, 17}, {5, 4, 1}, {6, 6, 16}};
     arguments a = on_coder(call, f);
-    coder_file changed = *f;
-    size_t k;
+    coder_file faulty;
+    size_t k, number;
 
-    a.file = changed.bytes;
-    for (k = 0; k < 5 && call != CALL_WRITE; k++) {
-        changed = *f;
-        changed.bytes[rows[k].place] = rows[k].byte;
-        beside(&a, rows[k].number, 1);
+    a.file = faulty.bytes;
+    for (k = 0; k < FAULTS_BEFORE_15; k++) {
+        number = make_faulty(f, k, &faulty);
+        a.file_len = faulty.len;
+        beside(&a, number, 1);
     }
-    changed = *f;
-    if (call != CALL_WRITE) {
-        *letter_at(&changed, 0) = MOST_OUTPUTS;
-        beside(&a, 6, 1);
-        a.file_len = 5;
-        known_refusal(&a, 1);
-        return;
-    }
+}
+
+static void beside_earlier_of_parts(const coder_file *f)
+{
+    arguments a = on_coder(CALL_WRITE, f);
+
     letters_room[1] = MOST_OUTPUTS;
     beside(&a, 6, 1);
     a.bytes_len--;
@@ -362,11 +358,15 @@ void group_unused(void)
         more_letters(&e.file);
         renamed_letters(&e.file, 0);
         renamed_letters(&e.file, 1);
-        for (call = 0; call < CALLS && e.file.bytes[5] > 1; call++) {
-            beside_earlier((enum call)call, &e.file);
+        if (e.file.bytes[5] == 1)
+            continue; /* no table is too large */
+        for (call = 0; call < CALLS; call++) {
+            if (call != CALL_WRITE)
+                beside_earlier((enum call)call, &e.file);
             beside_numbers((enum call)call, &e.file);
             beside_buffers_and_letters((enum call)call, &e.file);
         }
+        beside_earlier_of_parts(&e.file);
     }
     one_entry_names(0);
     one_entry_names(1);
