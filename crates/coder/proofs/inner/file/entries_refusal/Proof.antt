@@ -1,4 +1,4 @@
--- `entries_refusal` meets its contract: refusals 4, 5 and 6 in order. Counts in range keep the products small.
+-- `entries_refusal` meets its contract: refusals 4, 5, 6 and 15 in order. Counts in range keep the products small.
 use mathlib.Core.Bool.{not}
 use mathlib.Core.Path.{_≡_, _∙_, sym}
 use Prim.Native.Nat.{_*_, _≤_}
