@@ -53,6 +53,21 @@ void known_refusal(const arguments *a, size_t number)
     known_value("the number returned", compare(a).returned, number);
 }
 
+void with_file_faults(const arguments *a, const coder_file *f, size_t faults,
+                      void (*visit)(const arguments *a, size_t number))
+{
+    arguments b = *a;
+    coder_file faulty;
+    size_t k, number;
+
+    b.file = faulty.bytes;
+    for (k = 0; k < faults; k++) {
+        number = make_faulty(f, k, &faulty);
+        b.file_len = faulty.len;
+        visit(&b, number);
+    }
+}
+
 void same_reply(const arguments *a, const arguments *b)
 {
     static uint8_t bytes[LENT_ROOM];

@@ -44,6 +44,11 @@ void compare_both_ways(const coder_file *f, size_t settle, size_t most);
 /* A call that has to return this number. */
 void known_refusal(const arguments *a, size_t number);
 
+/* The call with each of the file's faults, the first so many of them: each is handed over with its
+   number. */
+void with_file_faults(const arguments *a, const coder_file *f, size_t faults,
+                      void (*visit)(const arguments *a, size_t number));
+
 /* Two calls with the same letters and as long buffers: the number returned, field 0 and, of a string
    or table, the bytes that it counts are the same. */
 void same_reply(const arguments *a, const arguments *b);

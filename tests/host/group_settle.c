@@ -65,18 +65,16 @@ static void beside(const arguments *a, size_t number, int comes_first)
 }
 
 /* The numbers of the file. */
+static void before_14(const arguments *a, size_t number)
+{
+    beside(a, number, 1);
+}
+
 static void beside_file(enum call call, const coder_file *f)
 {
     arguments a = accepted(call, f);
-    coder_file faulty;
-    size_t k, number;
 
-    a.file = faulty.bytes;
-    for (k = 0; k < FILE_FAULTS; k++) {
-        number = make_faulty(f, k, &faulty);
-        a.file_len = faulty.len;
-        beside(&a, number, 1);
-    }
+    with_file_faults(&a, f, FILE_FAULTS, before_14);
 }
 
 /* 8 comes before 14; 9 to 13 come after it. */

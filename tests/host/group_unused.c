@@ -265,18 +265,16 @@ static void beside(const arguments *a, size_t number, int comes_first)
     known_refusal(&b, comes_first ? number : 15);
 }
 
+static void before_15(const arguments *a, size_t number)
+{
+    beside(a, number, 1);
+}
+
 static void beside_earlier(enum call call, const coder_file *f)
 {
     arguments a = on_coder(call, f);
-    coder_file faulty;
-    size_t k, number;
 
-    a.file = faulty.bytes;
-    for (k = 0; k < FAULTS_BEFORE_15; k++) {
-        number = make_faulty(f, k, &faulty);
-        a.file_len = faulty.len;
-        beside(&a, number, 1);
-    }
+    with_file_faults(&a, f, FAULTS_BEFORE_15, before_15);
 }
 
 static void beside_earlier_of_parts(const coder_file *f)

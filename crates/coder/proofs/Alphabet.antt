@@ -84,7 +84,7 @@ module _ (n i o : ℕ) (entries : List ℕ) where
   named-alphabet : EachNamed o (n * i) entries → NamesAlphabet (machineOfEntries n i entries) o
   unfolding entryOf
   named-alphabet h y l =
-      let r = h y l in
+      let r = h y (omega arith) in
       let j = r .0 in
       let a = placed n i j (r .1) in
       (j / i, j % i, a .state, a .letter, rw (lt-ltb (j / i) n (a .state), lt-ltb (j % i) i (a .letter), a .is) (r .2))
