@@ -2,6 +2,7 @@
 use mathlib.Core.Path.{_≡_, refl}
 use mathlib.Core.Bool.{Bool, true, not, _&&_}
 use mathlib.Core.List.{List}
+use mathlib.Core.Logic.{_≢_}
 use Prim.Native.Nat.{ℕ, _*_, _<_}
 use lib.ListN.{length}
 use lib.Dec.{lit<, ltb, eqb}
@@ -55,6 +56,10 @@ check-accepted f p fit e =
       below = letters-below (inputsOf f) (p .bytes) (t .0);
     }
 
+-- its checked part is asked rightly, whatever buffers are lent
+pub check-asked : (f : List ℕ) (p : LoopedPair) (others : Bool) → checkRefusal f p others ≡ 0 → checkRefusal f p true ≡ 0
+check-asked f p others e = rw (check-accepted f p others e .fits) at e
+
 pub right :
     {f : List ℕ} {p : LoopedPair} {answer : Bool} → Judges (Valid (settingOf f) p) answer →
     CheckedRight f p (Checked answer)
@@ -79,7 +84,7 @@ module _ {c : Coder} {f : List ℕ} {p : LoopedPair} {fit : Bool} (e : c ≡ cod
 
   -- what is judged in the setting of the words is judged in that of the file
   pub file-judged :
-      {starts : ℕ} {conflicts : List ℕ} {answer : Bool} → WordsOf c 0 starts conflicts →
+      {starts : ℕ} {conflicts : List ℕ} {answer : Bool} → WordsOf c 0 (λ i j. i ≢ j) starts conflicts →
       Judges (Valid (worded (machineOfCoder c) starts conflicts) p) answer → Judges (Valid (settingOf f) p) answer
   file-judged w =
       let m = same-trans (same-setting e (accepted f (r .file)) w) (same-sym (same-zero (machineOf f))) in

@@ -1,13 +1,13 @@
 -- The promise of the checker leaves one result: some result meets it, and two that meet it for the same arguments are equal.
 use mathlib.Core.Path.{_≡_, refl, sym, ap, _∙_}
-use mathlib.Core.Bool.{Bool, true}
+use mathlib.Core.Bool.{Bool}
 use mathlib.Core.List.{List}
 use Prim.Native.Nat.{ℕ, zero, suc}
 use native.Mathlib.Decide.{ℕ-discrete}
 use Rattle.mealy.specs.LoopedPair.{LoopedPair, Valid}
 use Rattle.coder.specs.Refusal.{upon}
 use Rattle.coder.specs.File.{settingOf}
-use Rattle.checker.specs.Check.{checkRefusal, CheckedRight, CheckPromise}
+use Rattle.checker.specs.Check.{checkRefusal, CheckedRight, CheckWith}
 use Rattle.coder.specs.Refusal.{Judges}
 use Rattle.checker.specs.declared.CheckResult.{CheckResult}
 use Rattle.checker.specs.declared.CheckResult.the-variants.{Refused, Checked}
@@ -33,15 +33,15 @@ module _ (f : List ℕ) (p : LoopedPair) where
   same-answer zero r r′ a b = checked-as a (judged b) ∙ sym (b .is)
   same-answer (suc k) r r′ a b = a ∙ sym b
 
-  pub check-determined : (r r′ : CheckResult) → CheckPromise f p r → CheckPromise f p r′ → r ≡ r′
-  check-determined r r′ a b = same-answer (checkRefusal f p true) r r′ a b
+  pub check-determined : (others : Bool) (r r′ : CheckResult) → CheckWith f p others r → CheckWith f p others r′ → r ≡ r′
+  check-determined others r r′ a b = same-answer (checkRefusal f p others) r r′ a b
 
-  pub check-exists : (r : CheckResult) × CheckPromise f p r
-  check-exists =
-      elim (ℕ-discrete (checkRefusal f p true) 0) [
+  pub check-exists : (others : Bool) → (r : CheckResult) × CheckWith f p others r
+  check-exists others =
+      elim (ℕ-discrete (checkRefusal f p others) 0) [
         | yes e ↦
-            let valid = dec-valid (settingOf f) (dec-start f (accepted f (check-accepted f p true e .file))) dec-conflict p in
+            let valid = dec-valid (settingOf f) (dec-start f (accepted f (check-accepted f p others e .file))) dec-conflict p in
             let d = judges-decided valid in
             (Checked (d .0), upon-done _ _ _ e (right (d .1)))
-        | no h ↦ (Refused (checkRefusal f p true), upon-refused _ _ _ refl h refl)
+        | no h ↦ (Refused (checkRefusal f p others), upon-refused _ _ _ refl h refl)
       ]

@@ -29,6 +29,11 @@ pub record CheckedRight (f : List ℕ) (p : LoopedPair) (r : CheckResult) : Type
   pub yes′ : answer ≡ true → Valid (settingOf f) p
   pub no′ : answer ≡ false → Valid (settingOf f) p → ⊥
 
--- The first refusal that applies, or yes exactly for the valid pairs ("Looped pair", the sentence on the checker).
+-- The first refusal that applies, or yes exactly for the valid pairs ("Looped pair", the sentence on the checker); `others` says whether
+-- the lent buffers are long enough, of which the checker has none of its own.
+abbrev pub CheckWith : List ℕ → LoopedPair → Bool → CheckResult → Type 0
+CheckWith f p others r = upon (checkRefusal f p others) (λ k. r ≡ Refused k) (CheckedRight f p r)
+
+-- The library's own call lends none.
 abbrev pub CheckPromise : List ℕ → LoopedPair → CheckResult → Type 0
-CheckPromise f p r = upon (checkRefusal f p true) (λ k. r ≡ Refused k) (CheckedRight f p r)
+CheckPromise f p r = CheckWith f p true r

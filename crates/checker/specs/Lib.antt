@@ -1,3 +1,4 @@
 -- What the contracts of the pair checker cite.
 pub mod Check
 pub mod Follow
+pub mod Laid

@@ -5,7 +5,8 @@ ghost use Rattle.mealy.specs.LoopedPair.{Valid};
 ghost use Rattle.coder.specs.File.{settingOf};
 ghost use Rattle.coder.specs.Refusal.{Judges};
 ghost use Rattle.values.specs.Pair.{pairOf};
-ghost use Rattle.checker.specs.Check.{checkRefusal};
+ghost use Rattle.checker.specs.Check.{checkRefusal, CheckWith};
+use crate::CheckResult;
 use coder::inner::tables::Coder;
 use values::LoopedPair;
 
@@ -13,7 +14,7 @@ pub mod refusal; // refusal.rt: the refusal of a check
 pub mod follow; // follow.rt: the two runs of a pair on the tables
 
 // Whether a pair that is not refused is valid.
-pub fn checked(file: &[u8], pair: LoopedPair, letters: &[u8]) -> bool
+fn checked(file: &[u8], pair: LoopedPair, letters: &[u8]) -> bool
     requires { ⌜ checkRefusal (now file) (pairOf pair (now letters)) true ≡ 0 ⌝ }
     ensures { λ r. ⌜ Judges (Valid (settingOf (now (file .entry))) (pairOf pair (now (letters .entry)))) r ⌝ }
 {
@@ -21,4 +22,15 @@ pub fn checked(file: &[u8], pair: LoopedPair, letters: &[u8]) -> bool
     let starts = starts::inner::start_states(c, 0);
     let conflicts = setting::inner::different_letters();
     follow::valid(&c.next, &c.output, starts, &conflicts, pair, letters)
+}
+
+// Whether a pair is valid, where `others` says whether all lent buffers are long enough.
+pub fn check(file: &[u8], pair: LoopedPair, letters: &[u8], others: bool) -> CheckResult
+    ensures { λ r. ⌜ CheckWith (now (file .entry)) (pairOf pair (now (letters .entry))) others r ⌝ }
+{
+    let k = refusal::check(file, pair, letters, others);
+    if k != 0 {
+        return CheckResult::Refused(k);
+    }
+    CheckResult::Checked(checked(file, pair, letters))
 }

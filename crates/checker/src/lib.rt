@@ -4,6 +4,7 @@ ghost use Rattle.checker.specs.Check.{CheckPromise};
 use values::LoopedPair;
 
 pub mod inner; // inner.rt: what the crates above call on checked bytes; no public calls
+pub mod host; // host.rt: the call from C
 
 // The refusal's number, or whether the pair is valid.
 pub enum CheckResult {
@@ -15,9 +16,5 @@ pub enum CheckResult {
 pub fn check(file: &[u8], pair: LoopedPair, letters: &[u8]) -> CheckResult
     ensures { λ r. ⌜ CheckPromise (now (file .entry)) (pairOf pair (now (letters .entry))) r ⌝ }
 {
-    let k = inner::refusal::check(file, pair, letters, true);
-    if k != 0 {
-        return CheckResult::Refused(k);
-    }
-    CheckResult::Checked(inner::checked(file, pair, letters))
+    inner::check(file, pair, letters, true)
 }

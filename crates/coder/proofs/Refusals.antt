@@ -170,7 +170,3 @@ letters-below n [] e = tt
 letters-below n (x ∷ xs) e =
     let a = both-true (ltb x n) (lettersBelow n xs) e in
     (ltb-true x n (a .0), letters-below n xs (a .1))
-
-pub letters-higher : (n m : ℕ) (xs : List ℕ) → n ≤ m → Letters n xs → Letters m xs
-letters-higher n m [] l h = tt
-letters-higher n m (x ∷ xs) l h = (let p = h .0 in omega arith, letters-higher n m xs l (h .1))

@@ -9,38 +9,38 @@ use lib.Dec.{lit<, leb, eqb}
 use borrow.Author.Tests.{leb-true, eqb-true}
 use Rattle.mealy.specs.Machine.{Letters}
 use Rattle.coder.specs.Limits.{maxSide, maxSettle}
-use Rattle.coder.specs.Refusal.{refuse, lettersBelow}
+use Rattle.coder.specs.Refusal.{refuse, first, lettersBelow}
 use Rattle.coder.specs.File.{fileRefusal, outputsOf}
 use Rattle.coder.proofs.Refusals.{both-true, refuse-not, first-none, letters-below}
 use Rattle.coder.proofs.Accepted.{accepted}
 use Rattle.table_size.specs.Size.{maxTable}
 use Rattle.table_size.specs.Cases.{tableAllowed}
 use Rattle.table_size.proofs.Exact.{cases-exact}
+use Rattle.window_limits.specs.Refusal.{sidesRefusal, settleRefusal, SidesSmall}
+use Rattle.window_limits.proofs.Limits.{sides-accepted, sides-pass, settle-accepted, settle-pass}
 use Rattle.values.specs.Window.{size}
 use Rattle.values.specs.declared.Window.{Window}
-use Rattle.decoder.specs.Refusal.{limitsRefusal, SidesSmall, windowRefusal, stringRefusal, tableSize, tableRefusal}
+use Rattle.decoder.specs.Refusal.{limitsRefusal, windowRefusal, stringRefusal, tableSize, tableRefusal}
 use Rattle.decoder.specs.Places.{places, stringRefusalIn, StringAsked}
 use Rattle.decoder.specs.Table.{tableRefusalIn, TableAsked}
 
 -- the file and the three numbers of a window, which every call checks first
 pub record LimitsAccepted (f : List ℕ) (w : Window) : Type 0 where
   pub file : fileRefusal f ≡ 0
-  pub small : SidesSmall w
+  pub small : SidesSmall (w .before) (w .after)
   pub settle-small : w .settle ≤ maxSettle
 
 pub limits-accepted : (f : List ℕ) (w : Window) → limitsRefusal f w ≡ 0 → LimitsAccepted f w
 unfolding limitsRefusal
 limits-accepted f w e =
-    let t = (leb (w .before) maxSide && leb (w .after) maxSide) in
-    let rest = refuse (not (leb (w .settle) maxSettle)) 14 0 in
-    let p = first-none (fileRefusal f) (refuse (not t) 8 rest) e in
-    let q = refuse-not t 8 rest (lit< tt) (p .1) in
-    let s = both-true (leb (w .before) maxSide) (leb (w .after) maxSide) (q .0) in
-    record {
-      file = p .0;
-      small = record { before-small = leb-true _ _ (s .0); after-small = leb-true _ _ (s .1) };
-      settle-small = leb-true _ _ (refuse-not (leb (w .settle) maxSettle) 14 0 (lit< tt) (q .1) .0);
-    }
+    let p = first-none (fileRefusal f) (first (sidesRefusal (w .before) (w .after)) (settleRefusal (w .settle))) e in
+    let q = first-none (sidesRefusal (w .before) (w .after)) (settleRefusal (w .settle)) (p .1) in
+    record { file = p .0; small = sides-accepted _ _ (q .0); settle-small = settle-accepted _ (q .1) }
+
+pub limits-pass :
+    (f : List ℕ) (w : Window) → fileRefusal f ≡ 0 → w .before ≤ maxSide → w .after ≤ maxSide → w .settle ≤ maxSettle → limitsRefusal f w ≡ 0
+unfolding limitsRefusal
+limits-pass f w e b a p = rw (e, sides-pass _ _ b a, settle-pass _ p)
 
 -- ---- one window
 
@@ -67,6 +67,11 @@ window-accepted f w received fit e =
       fits = h .0;
       letters = letters-below (outputsOf f) received (s .0);
     }
+
+-- its checked part is asked rightly, whatever buffers are lent
+pub window-asked :
+    (f : List ℕ) (w : Window) (received : List ℕ) (others : Bool) → windowRefusal f w received others ≡ 0 → windowRefusal f w received true ≡ 0
+window-asked f w received others e = rw (window-accepted f w received others e .fits) at e
 
 -- ---- a string
 

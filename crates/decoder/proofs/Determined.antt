@@ -1,7 +1,7 @@
 -- Each public call's promise leaves one outcome and is met by one: two outcomes that meet it for the same arguments are equal, and
--- for all arguments some outcome meets it.
+-- for all arguments some outcome meets it, whatever other buffers are lent.
 use mathlib.Core.Path.{_≡_, refl, sym, ap, _∙_}
-use mathlib.Core.Bool.{true}
+use mathlib.Core.Bool.{Bool}
 use mathlib.Core.List.{List}
 use Prim.Native.Nat.{ℕ, zero, suc, _≤_, _<_}
 use native.Mathlib.Omega.{arith}
@@ -23,9 +23,9 @@ use Rattle.values.specs.declared.CountResult as count
 use Rattle.decoder.specs.Written.{Written}
 use Rattle.decoder.specs.Count.{CountPromise}
 use Rattle.decoder.specs.Refusal.{windowRefusal}
-use Rattle.decoder.specs.Window.{windowSetting, AnsweredRight, WindowPromise}
-use Rattle.decoder.specs.Places.{stringRefusalIn, StringPromise}
-use Rattle.decoder.specs.Table.{tableRefusalIn, TablePromise}
+use Rattle.decoder.specs.Window.{windowSetting, AnsweredRight, WindowWith}
+use Rattle.decoder.specs.Places.{stringRefusalIn, StringWith}
+use Rattle.decoder.specs.Table.{tableRefusalIn, TableWith}
 use Rattle.decoder.specs.declared.WindowResult.{WindowResult}
 use Rattle.decoder.specs.declared.WindowResult.the-variants.{Refused, Answered}
 use Rattle.decoder.proofs.Accepting.{window-accepted, string-accepted, string-asked, table-accepted, table-asked}
@@ -34,9 +34,9 @@ use Rattle.decoder.proofs.Decoding.{startsOf, file-right}
 
 -- ---- one window
 
-module _ (f : List ℕ) (w : Window) (received : List ℕ) where
-  pub window-determined : (r r′ : WindowResult) → WindowPromise f w received r → WindowPromise f w received r′ → r ≡ r′
-  window-determined r r′ = go (windowRefusal f w received true)
+module _ (f : List ℕ) (w : Window) (received : List ℕ) (others : Bool) where
+  pub window-determined : (r r′ : WindowResult) → WindowWith f w received others r → WindowWith f w received others r′ → r ≡ r′
+  window-determined r r′ = go (windowRefusal f w received others)
     where
       go :
           (k : ℕ) → upon k (λ j. r ≡ Refused j) (AnsweredRight f w received r) →
@@ -47,14 +47,14 @@ module _ (f : List ℕ) (w : Window) (received : List ℕ) where
           ∙ sym (q .is)
       go (suc k) p q = p ∙ sym q
 
-  pub window-exists : (r : WindowResult) × WindowPromise f w received r
-  window-exists = go (windowRefusal f w received true) refl
+  pub window-exists : (r : WindowResult) × WindowWith f w received others r
+  window-exists = go (windowRefusal f w received others) refl
     where
       go :
-          (k : ℕ) → windowRefusal f w received true ≡ k →
+          (k : ℕ) → windowRefusal f w received others ≡ k →
           (r : WindowResult) × upon k (λ j. r ≡ Refused j) (AnsweredRight f w received r)
       go zero e =
-          let h = window-accepted f w received true e in
+          let h = window-accepted f w received others e in
           let v = decoded (coderOf f) (startsOf f (w .settle)) received (w .before) in (
             Answered v,
             record { answer = v; is = refl; right = file-right f (h .limits .file) (w .settle) received (w .before) (omega (arith, h .long)) },
@@ -110,18 +110,18 @@ module _ (f : List ℕ) (p b : ℕ) (part : ℕ → List ℕ) (n k : ℕ) (befor
 
 -- ---- a string
 
-module _ (f : List ℕ) (w : Window) (received before : List ℕ) where
+module _ (f : List ℕ) (w : Window) (received before : List ℕ) (others : Bool) where
   pub string-determined :
-      (r r′ : count.CountResult) (after after′ : List ℕ) → StringPromise f w received before r after →
-      StringPromise f w received before r′ after′ → (r ≡ r′) × (after ≡ after′)
+      (r r′ : count.CountResult) (after after′ : List ℕ) → StringWith f w received before others r after →
+      StringWith f w received before others r′ after′ → (r ≡ r′) × (after ≡ after′)
   string-determined = parts-determined f (w .settle) (w .before) (λ j. take (size w) (drop j received)) _ _ before
 
-  pub string-exists : (r : count.CountResult) × (after : List ℕ) × StringPromise f w received before r after
+  pub string-exists : (r : count.CountResult) × (after : List ℕ) × StringWith f w received before others r after
   string-exists =
-      parts-exist f (w .settle) (w .before) (λ j. take (size w) (drop j received)) _ (stringRefusalIn f w received (length before) true) before
+      parts-exist f (w .settle) (w .before) (λ j. take (size w) (drop j received)) _ (stringRefusalIn f w received (length before) others) before
       (λ z. (
         string-accepted f w received _ z .limits .file,
-        string-asked f w received before true z .room,
+        string-asked f w received before others z .room,
         λ j l.
             let long : length (take (size w) (drop j received)) ≡ size w =
             length-take-le (size w) (drop j received) (simp length-drop (omega arith)) in
@@ -130,17 +130,17 @@ module _ (f : List ℕ) (w : Window) (received before : List ℕ) where
 
 -- ---- a table
 
-module _ (f : List ℕ) (w : Window) (before : List ℕ) where
+module _ (f : List ℕ) (w : Window) (before : List ℕ) (others : Bool) where
   pub table-determined :
-      (r r′ : count.CountResult) (after after′ : List ℕ) → TablePromise f w before r after →
-      TablePromise f w before r′ after′ → (r ≡ r′) × (after ≡ after′)
+      (r r′ : count.CountResult) (after after′ : List ℕ) → TableWith f w before others r after →
+      TableWith f w before others r′ after′ → (r ≡ r′) × (after ≡ after′)
   table-determined = parts-determined f (w .settle) (w .before) (windowAt (outputsOf f) (size w)) _ _ before
 
-  pub table-exists : (r : count.CountResult) × (after : List ℕ) × TablePromise f w before r after
+  pub table-exists : (r : count.CountResult) × (after : List ℕ) × TableWith f w before others r after
   table-exists =
-      parts-exist f (w .settle) (w .before) (windowAt (outputsOf f) (size w)) _ (tableRefusalIn f w (length before) true) before
+      parts-exist f (w .settle) (w .before) (windowAt (outputsOf f) (size w)) _ (tableRefusalIn f w (length before) others) before
       (λ z. (
         table-accepted f w _ z .limits .file,
-        table-asked f w before true z .room,
+        table-asked f w before others z .room,
         λ j l. omega (arith, length-window (outputsOf f) (size w) j),
       ))

@@ -34,10 +34,14 @@ abbrev pub stringRefusalIn : List ℕ → Window → List ℕ → ℕ → Bool �
 stringRefusalIn f w received room others = stringRefusal f w received (leb (places (length received) w) room && others)
 
 -- The first refusal that applies, or a right byte for each place with a full window.
-abbrev pub StringPromise : List ℕ → Window → List ℕ → List ℕ → CountResult → List ℕ → Type 0
-StringPromise f w received before r after =
-    CountPromise (stringRefusalIn f w received (length before) true) (places (length received) w) (ByteAt f received w)
+abbrev pub StringWith : List ℕ → Window → List ℕ → List ℕ → Bool → CountResult → List ℕ → Type 0
+StringWith f w received before others r after =
+    CountPromise (stringRefusalIn f w received (length before) others) (places (length received) w) (ByteAt f received w)
     before r after
+
+-- The library's own call lends no other buffer.
+abbrev pub StringPromise : List ℕ → Window → List ℕ → List ℕ → CountResult → List ℕ → Type 0
+StringPromise f w received before r after = StringWith f w received before true r after
 
 -- what the checked part of the call asks: no refusal, and room for each byte
 pub record StringAsked (f : List ℕ) (w : Window) (received before : List ℕ) : Type 0 where

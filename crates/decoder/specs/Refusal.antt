@@ -1,28 +1,19 @@
 -- The refusals of the three calls, each in checking order.
-use Prim.Native.Nat.{ℕ, _^_, _≤_}
-use mathlib.Core.Bool.{Bool, not, _&&_}
+use Prim.Native.Nat.{ℕ, _^_}
+use mathlib.Core.Bool.{Bool, not}
 use mathlib.Core.List.{List}
 use lib.ListN.{length}
 use lib.Dec.{leb, eqb}
 use Rattle.coder.specs.Refusal.{refuse, first, lettersBelow}
-use Rattle.coder.specs.Limits.{maxSide, maxSettle}
 use Rattle.coder.specs.File.{fileRefusal, outputsOf}
 use Rattle.table_size.specs.Size.{maxTable}
+use Rattle.window_limits.specs.Refusal.{sidesRefusal, settleRefusal}
 use Rattle.values.specs.Window.{size}
 use Rattle.values.specs.declared.Window.{Window}
 
--- The file's, 8 and 14 (document 02, 6/13, last sentence): what every call with a window is refused for first.
+-- The file's, 8 and 14 (document 02, 6/13, last sentence): what every call with a window and its settle count is refused for first.
 unfoldable pub limitsRefusal : List ℕ → Window → ℕ
-limitsRefusal f w =
-    first (fileRefusal f)
-    (refuse (not (leb (w .before) maxSide && leb (w .after) maxSide)) 8
-    (refuse (not (leb (w .settle) maxSettle)) 14
-    0))
-
--- Both sides are within the limit.
-pub record SidesSmall (w : Window) : Type 0 where
-  pub before-small : w .before ≤ maxSide
-  pub after-small : w .after ≤ maxSide
+limitsRefusal f w = first (fileRefusal f) (first (sidesRefusal (w .before) (w .after)) (settleRefusal (w .settle)))
 
 -- One window: then 9 (the number of letters), 11 (some lent buffer is too short) and 13 (a received letter). Whether all lent buffers
 -- are long enough is an argument: a call of the library lends none for a single window, a call from C lends its result.

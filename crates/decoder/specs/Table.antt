@@ -23,9 +23,13 @@ abbrev pub tableRefusalIn : List ℕ → Window → ℕ → Bool → ℕ
 tableRefusalIn f w room others = tableRefusal f w (leb (tableSize (outputsOf f) w) room && others)
 
 -- The first refusal that applies, or a right byte at each index.
+abbrev pub TableWith : List ℕ → Window → List ℕ → Bool → CountResult → List ℕ → Type 0
+TableWith f w before others r after =
+    CountPromise (tableRefusalIn f w (length before) others) (tableSize (outputsOf f) w) (EntryOf f w) before r after
+
+-- The library's own call lends no other buffer.
 abbrev pub TablePromise : List ℕ → Window → List ℕ → CountResult → List ℕ → Type 0
-TablePromise f w before r after =
-    CountPromise (tableRefusalIn f w (length before) true) (tableSize (outputsOf f) w) (EntryOf f w) before r after
+TablePromise f w before r after = TableWith f w before true r after
 
 -- what the checked part of the call asks: no refusal, and room for each byte
 pub record TableAsked (f : List ℕ) (w : Window) (before : List ℕ) : Type 0 where

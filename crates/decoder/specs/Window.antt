@@ -1,7 +1,7 @@
 -- One window: the call's promise.
 use Prim.Native.Nat.{ℕ}
 use mathlib.Core.Path.{_≡_}
-use mathlib.Core.Bool.{true}
+use mathlib.Core.Bool.{Bool, true}
 use mathlib.Core.List.{List}
 use Rattle.mealy.specs.Setting.{Setting}
 use Rattle.coder.specs.File.{settingAfter}
@@ -28,7 +28,11 @@ pub record AnsweredRight (f : List ℕ) (w : Window) (received : List ℕ) (r : 
   pub is : r ≡ Answered answer
   pub right : RightOf f w received answer
 
--- The first refusal that applies, or the answer of demand 2's second sentence.
+-- The first refusal that applies, or the answer of demand 2's second sentence; `others` says whether the lent buffers are long enough, of
+-- which a single window has none of its own.
+abbrev pub WindowWith : List ℕ → Window → List ℕ → Bool → WindowResult → Type 0
+WindowWith f w received others r = upon (windowRefusal f w received others) (λ k. r ≡ Refused k) (AnsweredRight f w received r)
+
+-- The library's own call lends none.
 abbrev pub WindowPromise : List ℕ → Window → List ℕ → WindowResult → Type 0
-WindowPromise f w received r =
-    upon (windowRefusal f w received true) (λ k. r ≡ Refused k) (AnsweredRight f w received r)
+WindowPromise f w received r = WindowWith f w received true r

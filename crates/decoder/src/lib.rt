@@ -2,8 +2,7 @@
 ghost use Rattle.decoder.specs.Window.{WindowPromise};
 ghost use Rattle.decoder.specs.Places.{StringPromise};
 ghost use Rattle.decoder.specs.Table.{TablePromise};
-use inner::checked;
-use inner::refusal;
+use inner::calls;
 use values::CountResult;
 use values::Window;
 
@@ -19,33 +18,19 @@ pub enum WindowResult {
 pub fn window(file: &[u8], w: Window, received: &[u8]) -> WindowResult
     ensures { λ r. ⌜ WindowPromise (now (file .entry)) w (now (received .entry)) r ⌝ }
 {
-    let k = refusal::window(file, w, received, true);
-    if k != 0 {
-        return WindowResult::Refused(k);
-    }
-    WindowResult::Answered(checked::window(file, w, received))
+    calls::window(file, w, received, true)
 }
 
 // Decodes each place of a string that has a full window. The file's refusals, 8, 14, 11, 13.
 pub fn string(file: &[u8], w: Window, received: &[u8], output: &mut [u8]) -> CountResult
     ensures { λ r. ⌜ StringPromise (now (file .entry)) w (now (received .entry)) (now (output .entry)) r (now (output .exit)) ⌝ }
 {
-    let k = refusal::string(file, w, received, output.len(), true);
-    if k != 0 {
-        return CountResult::Refused(k);
-    }
-    let count = checked::string(file, w, received, output);
-    CountResult::Done { count }
+    calls::string(file, w, received, output, true)
 }
 
 // Fills the decoder table: a byte for each window, by its index. The file's refusals, 8, 14, 10, 11.
 pub fn table(file: &[u8], w: Window, table: &mut [u8]) -> CountResult
     ensures { λ r. ⌜ TablePromise (now (file .entry)) w (now (table .entry)) r (now (table .exit)) ⌝ }
 {
-    let k = refusal::table(file, w, table.len(), true);
-    if k != 0 {
-        return CountResult::Refused(k);
-    }
-    let count = checked::table(file, w, table);
-    CountResult::Done { count }
+    calls::table(file, w, table, true)
 }

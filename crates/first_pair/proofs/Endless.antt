@@ -1,4 +1,5 @@
--- Where an edge on conflicting letters joins levels of N × N letters, some pair is valid, with at most 2 × N × N + 1 letters.
+-- Where an edge on conflicting letters joins levels of N × N letters, as it does where no window works, some pair is valid, with at most
+-- 2 × N × N + 1 letters.
 use mathlib.Core.Path.{_≡_, refl, ap}
 use mathlib.Core.List.{List, [], _∷_}
 use Prim.Native.Nat.{ℕ, zero, suc, _+_, _*_, _-_, _≤_, _<_}
@@ -7,12 +8,14 @@ use lib.ListN.{getD, take}
 use lib.Seq.{take-all}
 use Rattle.mealy.specs.Machine.{Machine, end}
 use Rattle.mealy.specs.Setting.{Setting, Closed, Bounded}
-use Rattle.mealy.specs.Window.{EqualOutputs}
+use Rattle.mealy.specs.Window.{EqualOutputs, Works}
 use Rattle.mealy.specs.Product.{Edge, back, forward, Level, ConflictEdge}
 use Rattle.mealy.specs.LoopedPair.{LoopedPair, letters, Valid}
 use Rattle.mealy.proofs.ComesBack.{letters-take, end-start}
 use Rattle.mealy.proofs.Edges.{equal-edge, equal-tail}
 use Rattle.mealy.proofs.Runs.{back→runs, forward→runs}
+use Rattle.mealy.proofs.Windows.{unambiguous→works}
+use Rattle.mealy.proofs.Decisions.{dec-ambiguous}
 use Rattle.first_pair.specs.Reach.{Reach, At, Cycle, SomeConflictInto}
 use Rattle.first_pair.proofs.Reaching.{edge-into, reach-end}
 use Rattle.first_pair.proofs.Making.{possible-valid}
@@ -119,3 +122,11 @@ module _ (S : Setting) (closed : Closed S) (bounded : Bounded S) where
       meetings-valid (c .s) (c .t) (c .i) (c .j) (c .u) (c .v) _ _ _ _ (c .edge) (c .conflict)
       (rw (b .end₁, b .end₂) at (meeting (b .s) (b .t) (b .xs) (b .ys) (b .start₁) (b .start₂) (b .equal)))
       (meeting (c .u) (c .v) (f .xs) (f .ys) (f .start₁) (f .start₂) (f .equal))
+
+  -- where no window works there is such an edge
+  module _ (decideStart : (s : ℕ) → Dec (Start s)) (decideConflict : (i j : ℕ) → Dec (S .Conflict i j)) where
+    pub none-valid : ((b a : ℕ) → Works S b a → ⊥) → (q : LoopedPair) × Valid S q × (letters q ≤ 2 * n + 1)
+    none-valid none = elim (dec-ambiguous S decideStart bounded closed decideConflict n n) [
+      | yes c ↦ endless-valid c
+      | no c ↦ absurd (none n n (unambiguous→works S closed n n c))
+    ]

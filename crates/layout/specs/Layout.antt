@@ -1,11 +1,8 @@
 -- The layout of the result buffer, which docs/c-interface.md describes.
 use Prim.Native.Nat.{ℕ, _*_}
-use mathlib.Core.Bool.{Bool, cond}
 use mathlib.Core.List.{List, [], _∷_, _++_}
 use lib.ListN.{length, take, drop}
 use Rattle.coder.specs.BigEndian.{bigEndian, fromBigEndian}
-use Rattle.search.specs.declared.Verdict.{Verdict}
-use Rattle.search.specs.declared.Verdict.the-variants.{Least, NoDecoder}
 
 -- The bytes of the result buffer that each call wants.
 abbrev pub resultBytes : ℕ
@@ -28,14 +25,3 @@ withFields result ns = fieldsOf ns ++ drop (8 * length ns) result
 -- Field k of a result buffer, as a host reads it. It is the number written there (`field-at` of proofs/Reading.antt).
 abbrev pub fieldAt : List ℕ → ℕ → ℕ
 fieldAt result k = fromBigEndian (take 8 (drop (8 * k) result))
-
--- The fields of a verdict ("Looped pair", the sentence on the verdict): its kind, then a window's two sides, or a looped pair's start
--- states and four lengths.
-abbrev pub verdictFields : Verdict → List ℕ
-verdictFields (Least w) = 0 ∷ w .before ∷ w .after ∷ []
-verdictFields (NoDecoder p) =
-    1 ∷ p .s ∷ p .t ∷ p .«back_loop» ∷ p .«lead_in» ∷ p .«lead_out» ∷ p .«forward_loop» ∷ []
-
--- The number of a yes or a no.
-abbrev pub numberOf : Bool → ℕ
-numberOf b = cond {A = ℕ} b 1 0

@@ -1,2 +1,3 @@
--- What the contracts of the result buffer's fields cite.
+-- What the contracts of the calls from C cite: the fields of the result buffer, and a call from C as the library's own call laid out.
 pub mod Layout
+pub mod Host

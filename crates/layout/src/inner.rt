@@ -1,10 +1,34 @@
 // No public calls: the fields of the result buffer, 8 bytes each, big-endian, field k at bytes 8 k to 8 k + 7.
+ghost use mathlib.Core.Bool.{_&&_};
 ghost use mathlib.Core.Path.{_≡_};
 ghost use mathlib.Core.List.{[], _∷_};
 ghost use Prim.Native.Nat.{_+_, _*_, _≤_};
+ghost use lib.Dec.{leb};
 ghost use lib.ListN.{length};
 ghost use lib.Seq.{sets};
-ghost use Rattle.layout.specs.Layout.{resultBytes, field, withFields, verdictFields, numberOf};
+ghost use Rattle.layout.specs.Layout.{resultBytes, field, withFields};
+ghost use Rattle.layout.specs.Host.{laidCount, LaidOut, Fits};
+use values::CountResult;
+
+// The bytes of the result buffer that each call from C wants.
+const RESULT: usize = 64;
+
+// Whether a result buffer of so many bytes is long enough.
+pub fn roomy(len: usize) -> bool
+    ensures { λ r. ⌜ r ≡ leb resultBytes len ⌝ }
+{
+    RESULT <= len
+}
+
+// Whether n bytes fit into a lent buffer of `room` bytes, and the other lent buffers are long enough.
+pub fn enough(n: usize, room: usize, others: bool) -> bool
+    ensures { λ r. ⌜ r ≡ (leb n room && others) ⌝ }
+{
+    if n <= room {
+        return others;
+    }
+    false
+}
 
 // Writes x into field k.
 fn put_field(result: &mut [u8], k: usize, x: usize)
@@ -44,34 +68,16 @@ pub fn put_two(result: &mut [u8], x: usize, y: usize)
     put_fields(result, &numbers[..]);
 }
 
-// The fields of a verdict.
-pub fn put_verdict(result: &mut [u8], verdict: search::Verdict)
-    requires { ⌜ resultBytes ≤ length (now result) ⌝ }
-    ensures { λ _. ⌜ now (result .exit) ≡ withFields (now (result .entry)) (verdictFields verdict) ⌝ }
+// A number of bytes, or a refusal: what is returned for it.
+pub fn put_count(own: CountResult, result: &mut [u8]) -> usize
+    requires { ⌜ Fits (laidCount own) (now result) ⌝ }
+    ensures { λ r. ⌜ LaidOut (laidCount own) (now (result .entry)) r (now (result .exit)) ⌝ }
 {
-    match verdict {
-        search::Verdict::Least(w) => {
-            let numbers = [0, w.before, w.after];
-            put_fields(result, &numbers[..]);
-        }
-        search::Verdict::NoDecoder(p) => {
-            let numbers = [
-                1,
-                p.s,
-                p.t,
-                p.back_loop,
-                p.lead_in,
-                p.lead_out,
-                p.forward_loop,
-            ];
-            put_fields(result, &numbers[..]);
+    match own {
+        CountResult::Refused(k) => k,
+        CountResult::Done { count } => {
+            put_one(result, count);
+            0
         }
     }
-}
-
-// 1 for yes, 0 for no.
-pub fn yes_or_no(b: bool) -> usize
-    ensures { λ r. ⌜ r ≡ numberOf b ⌝ }
-{
-    if b { 1 } else { 0 }
 }

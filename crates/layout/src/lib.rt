@@ -1,2 +1,2 @@
-// The layout of the result buffer of the calls from C, which docs/c-interface.md describes. No public calls.
+// The calls from C: the fields of the result buffer, which docs/c-interface.md describes, and a result laid into them. No public calls.
 pub mod inner; // inner.rt: the fields of the result buffer

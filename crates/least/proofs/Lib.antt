@@ -2,3 +2,4 @@
 pub mod Counting
 pub mod Choosing
 pub mod Meaning
+pub mod Reports

@@ -10,9 +10,9 @@ use lib.ListN.{getD}
 use Rattle.mealy.specs.Setting.{Setting, Closed, worded}
 use Rattle.mealy.specs.Window.{Works}
 use Rattle.mealy.specs.Order.{Relation, IsOrder, Least}
-use Rattle.mealy.specs.Product.{back, forward, Level, pairs}
+use Rattle.mealy.specs.Product.{back, forward, Level, Ambiguous, pairs}
 use Rattle.mealy.proofs.Levels.{down, level-start, level-fall}
-use Rattle.mealy.proofs.Windows.{Ambiguous, works→unambiguous, unambiguous→works}
+use Rattle.mealy.proofs.Windows.{works→unambiguous, unambiguous→works}
 use Rattle.mealy.proofs.LeastWindows.{least-need, least-sides}
 use Rattle.mealy.proofs.Settling.{settled-by}
 use Rattle.coder.specs.Table.{machineOfCoder, Sound}

@@ -1,2 +1,3 @@
 -- What the contracts of the least window cite.
 pub mod Need
+pub mod Report

@@ -1,4 +1,4 @@
-// No public calls: the letters before that each lookahead needs, and the choice among the candidates.
+// No public calls: the letters before that each lookahead needs, the choice among the candidates, and from these the least window or none.
 ghost use mathlib.Core.Bool.{_&&_};
 ghost use mathlib.Core.Path.{_≡_};
 ghost use Prim.Native.Nat.{_<_, max};
@@ -9,6 +9,8 @@ ghost use Rattle.product.specs.Depth.{endless};
 ghost use Rattle.values.specs.Order.{relationOf};
 ghost use Rattle.least.specs.Need.{raised, CountAsked, CountedOne, RowAsked, RowCounted, ConflictsAsked, ConflictsDone};
 ghost use Rattle.least.specs.Need.{Needs, Chosen};
+ghost use Rattle.least.specs.Report.{LeastAsked, LeastGiven};
+use crate::LeastWindow;
 use chains::inner::wide;
 use coder::inner::bytes::number;
 use coder::inner::tables::Coder;
@@ -92,7 +94,7 @@ fn row<'a>(
 
 // Counts the conflicting edges, word i of `conflicts` holding the letters that conflict with i, up to one that is endless on both sides;
 // says whether there is one.
-pub fn count_edges<'a>(
+fn count_edges<'a>(
     c: Coder,
     last: &'a [u16; 64],
     previous: &'a [u16; 256],
@@ -132,7 +134,7 @@ pub fn count_edges<'a>(
 }
 
 // The letters before that each lookahead needs: the most that the table has past it.
-pub fn needs(worst: &[u8; 256]) -> [u8; 256]
+fn needs(worst: &[u8; 256]) -> [u8; 256]
     ensures { λ r. ⌜ Needs (now (worst .entry)) r ⌝ }
 {
     let mut need = [0u8; 256];
@@ -153,7 +155,7 @@ fn larger(x: u8, y: u8) -> u8
 }
 
 // The first of the candidates in the order, as a window with the settle count that the letters needed were found for.
-pub fn choose(order: Order, settle: usize, need: &[u8; 256]) -> Window
+fn choose(order: Order, settle: usize, need: &[u8; 256]) -> Window
     requires { ⌜ getD (now need) maxSide 0 < endless ⌝ }
     ensures { λ r. ⌜ Chosen (relationOf order) settle (now (need .entry)) r ⌝ }
 {
@@ -186,4 +188,29 @@ pub fn choose(order: Order, settle: usize, need: &[u8; 256]) -> Window
         after,
         settle,
     }
+}
+
+// The least window, in the order, that tells conflicting letters apart, or none; word i of `conflicts` holds the letters that conflict
+// with i. The window has the settle count whose start states the depths are of.
+pub fn least_for<'a>(
+    c: Coder,
+    last: &'a [u16; 64],
+    previous: &'a [u16; 256],
+    backs: &'a [[u8; 16]; 16],
+    forwards: &'a [[u8; 16]; 16],
+    conflicts: &'a [u16; 16],
+    order: Order,
+    settle: usize,
+) -> LeastWindow
+    requires { ⌜ LeastAsked c (now last) (now previous) (now backs) (now forwards) ⌝ }
+    ensures { λ r. ⌜ LeastGiven (relationOf order) settle c (now (backs .entry)) (now (forwards .entry)) (now (conflicts .entry)) r ⌝ }
+{
+    let mut worst = [0u8; 256];
+    let ambiguous = count_edges(c, last, previous, conflicts, backs, forwards, &mut worst);
+    if ambiguous {
+        return LeastWindow::None;
+    }
+    let need = needs(&worst);
+    let w = choose(order, settle, &need);
+    LeastWindow::Some(w)
 }

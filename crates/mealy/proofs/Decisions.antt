@@ -7,9 +7,9 @@ use native.Mathlib.Decide.{decLt, ℕ-discrete, map-dec}
 use Rattle.mealy.specs.Machine.{Machine}
 use Rattle.mealy.specs.Setting.{Setting, Closed, Bounded}
 use Rattle.mealy.specs.Window.{Works}
-use Rattle.mealy.specs.Product.{Edge, Direction, back, forward, Step, Neighbour, Level}
+use Rattle.mealy.specs.Product.{Edge, Direction, back, forward, Step, Neighbour, Level, Ambiguous}
 use Rattle.mealy.proofs.Levels.{level-start}
-use Rattle.mealy.proofs.Windows.{Ambiguous, works→unambiguous, unambiguous→works}
+use Rattle.mealy.proofs.Windows.{works→unambiguous, unambiguous→works}
 
 -- some number below n has P
 pub dec-below : (n : ℕ) (P : ℕ → Type 0) → ((i : ℕ) → Dec (P i)) → Dec ((i : ℕ) × (i < n) × P i)

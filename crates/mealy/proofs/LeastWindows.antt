@@ -11,15 +11,8 @@ use Rattle.mealy.specs.Order.{Relation, IsOrder, Least}
 use Rattle.mealy.specs.Product.{Direction, back, forward, Settled, pairs}
 use Rattle.mealy.proofs.Windows.{works-settled, works-settled-back}
 use Rattle.mealy.proofs.Settling.{settled-by}
-use Rattle.mealy.proofs.Decisions.{dec-below, dec-works}
-
--- the least number with P, from one with P that is at most n
-least-number : (P : ℕ → Type 0) → ((m : ℕ) → Dec (P m)) → (n m : ℕ) → m ≤ n → P m → (l : ℕ) × P l × ((k : ℕ) → P k → l ≤ k)
-least-number P d zero m e p = (m, p, λ k q. omega arith)
-least-number P d (suc n) m e p = elim (dec-below m P d) [
-  | yes z ↦ least-number P d n (z .0) (omega arith) (z .2)
-  | no z ↦ (m, p, λ k q. elim (decLe m k) [ yes l ↦ l | no l ↦ absurd (z (k, omega arith, q)) ])
-]
+use Rattle.mealy.proofs.Decisions.{dec-works}
+use Rattle.mealy.proofs.LeastLists.{least-number}
 
 module _ {R : Relation} (order : IsOrder R) (S : Setting) where
   pub least-unique : (b a b′ a′ : ℕ) → Least R S b a → Least R S b′ a′ → (b ≡ b′) × (a ≡ a′)

@@ -12,6 +12,10 @@ letter-at n [] h k l = absurd (omega arith)
 letter-at n (x ∷ xs) h zero l = h .0
 letter-at n (x ∷ xs) h (suc k) l = letter-at n xs (h .1) k (omega arith)
 
+pub letters-higher : (m n : ℕ) (xs : List ℕ) → m ≤ n → Letters m xs → Letters n xs
+letters-higher m n [] l h = tt
+letters-higher m n (x ∷ xs) l h = (omega (arith, h .0), letters-higher m n xs l (h .1))
+
 -- the first n of a list
 letters-front : (m n : ℕ) (xs : List ℕ) → n ≤ length xs → ((k : ℕ) → k < n → getD xs k 0 < m) → Letters m (take n xs)
 letters-front m zero xs l h = tt

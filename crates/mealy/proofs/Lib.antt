@@ -8,6 +8,7 @@ pub mod Windows
 pub mod Sums
 pub mod Decisions
 pub mod Settling
+pub mod LeastLists
 pub mod LeastWindows
 pub mod Orders
 pub mod Walks
@@ -24,6 +25,7 @@ pub mod Pigeonhole
 pub mod SameSettings
 pub mod PairBytes
 pub mod FirstPairs
+pub mod FirstExists
 pub mod Words
 pub mod Images
 pub mod OneMore

@@ -1,5 +1,5 @@
--- The bytes of a looped pair: whether it is valid hangs on those of its letters alone, and they are input letters.
-use mathlib.Core.Path.{_≡_, refl, ap₂}
+-- The bytes of a looped pair: whether it is valid, or first, hangs on those of its letters alone, and they are input letters.
+use mathlib.Core.Path.{_≡_, refl, sym, ap, ap₂, _∙_}
 use mathlib.Core.List.{List, _∷_}
 use Prim.Native.Nat.{ℕ, zero, suc, _+_, _*_, _≤_, _<_}
 use native.Mathlib.Omega.{arith}
@@ -8,6 +8,7 @@ use lib.Seq.{getD-take, length-take-le}
 use Rattle.mealy.specs.Machine.{Letters}
 use Rattle.mealy.specs.Setting.{Setting}
 use Rattle.mealy.specs.LoopedPair.{LoopedPair, Run, first, second, offset, letterAt, lettersFrom, mark, unlooped, letters, runInputs, startOf, Valid}
+use Rattle.mealy.specs.First.{First}
 use Rattle.mealy.proofs.Letters.{letters-by-two}
 use Rattle.mealy.proofs.SameSettings.{pair-letter-below}
 
@@ -57,6 +58,19 @@ module _ (p : LoopedPair) (bytes : List ℕ) (same : (k : ℕ) → k < 2 * lette
         back-closed = λ r. rw (start-same r, letters-same r 0 (p .back-loop) (omega arith)) (v .back-closed r);
         forward-closed = λ r. rw (start-same r, all r, letters-same r 0 (unlooped p) (omega arith)) (v .forward-closed r);
       }
+
+-- with other bytes past those of its letters a first pair is still first
+pub first-bytes :
+    (S : Setting) (p : LoopedPair) (bytes : List ℕ) → 2 * letters p ≤ length bytes →
+    take (2 * letters p) bytes ≡ take (2 * letters p) (p .bytes) → First S p → First S (withBytes p bytes)
+first-bytes S p bytes held e f =
+    let n = 2 * letters p in
+    record {
+      valid =
+          valid-bytes p bytes
+          (λ k l. sym (getD-take n bytes k 0 l) ∙ ap (λ xs. getD xs k 0) e ∙ getD-take n (p .bytes) k 0 l) S held (f .valid);
+      first = λ q v. rw e (f .first q v);
+    }
 
 -- the bytes of a valid pair's letters
 module _ (S : Setting) (p : LoopedPair) (v : Valid S p) where

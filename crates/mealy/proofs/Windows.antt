@@ -7,14 +7,10 @@ use native.Mathlib.Omega.{arith}
 use lib.ListN.{getD}
 use Rattle.mealy.specs.Setting.{Setting, Closed}
 use Rattle.mealy.specs.Window.{EqualOutputs, Works}
-use Rattle.mealy.specs.Product.{back, forward, Level, Settled, ConflictEdge}
+use Rattle.mealy.specs.Product.{back, forward, Level, Settled, ConflictEdge, Ambiguous}
 use Rattle.mealy.proofs.Edges.{equal-cons, equal-edge, equal-tail}
 use Rattle.mealy.proofs.Levels.{level-down, every-level}
 use Rattle.mealy.proofs.Runs.{prefix, forward→runs, edge-start, back-edge, forward-along}
-
--- the level sets of the window b a, and a conflicting edge between them
-abbrev pub Ambiguous : Setting → ℕ → ℕ → Type 0
-Ambiguous S b a = ConflictEdge S (Level S back b) (Level S forward a)
 
 pub conflict-map :
     {S : Setting} {P Q P′ Q′ : ℕ → ℕ → Type 0} → ((s t : ℕ) → P s t → P′ s t) → ((u v : ℕ) → Q u v → Q′ u v) → ConflictEdge S P Q →

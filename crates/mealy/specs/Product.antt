@@ -58,6 +58,11 @@ pub record ConflictEdge (S : Setting) (P Q : ℕ → ℕ → Type 0) : Type 0 wh
   pub conflict : S .Conflict i j
   pub to : Q u v
 
+-- A conflicting edge joins the levels of the window b a. In a closed setting the window works exactly where there is none
+-- (`works↔unambiguous` of proofs/Windows.antt).
+abbrev pub Ambiguous : Setting → ℕ → ℕ → Type 0
+Ambiguous S b a = ConflictEdge S (Level S back b) (Level S forward a)
+
 -- N × (N + 1) / 2, the number of unordered pairs of states: no side of a reported window is above it ("Coders and runs",
 -- the paragraph on limits).
 abbrev pub pairs : ℕ → ℕ

@@ -15,8 +15,11 @@ pub record Setting : Type 1 where
   pub Conflict : ℕ → ℕ → Type 0
 
 -- What laws ask of a setting: an entry leads from a start state to a start state; start states are states.
+abbrev pub ClosedOf : Machine → (ℕ → Type 0) → Type 0
+ClosedOf M Start = (s i : ℕ) → Start s → i < M .inputs → Start (M .next s i)
+
 abbrev pub Closed : Setting → Type 0
-Closed S = (s i : ℕ) → S .Start s → i < S .M .inputs → S .Start (S .M .next s i)
+Closed S = ClosedOf (S .M) (S .Start)
 
 abbrev pub Bounded : Setting → Type 0
 Bounded S = (s : ℕ) → S .Start s → s < S .M .states
@@ -26,10 +29,15 @@ Bounded S = (s : ℕ) → S .Start s → s < S .M .states
 abbrev pub fromReachable : Machine → Setting
 fromReachable M = record { M = M; Start = Reachable M; Conflict = λ i j. i ≢ j }
 
--- The setting of a coder's windows with settle count p: a run of the window starts where p letters lead from a reachable state (document
--- 02, 6/13, third sentence). With p = 0 it says the same as the one above (`same-zero` of proofs/StartStates.antt).
+-- The setting of windows with settle count p: a run of the window starts where p letters lead from a reachable state (document 02, 6/13,
+-- third sentence). C says which letters conflict.
+abbrev pub afterLettersWith : Machine → ℕ → (ℕ → ℕ → Type 0) → Setting
+afterLettersWith M p C = record { M = M; Start = StartAfter M p; Conflict = C }
+
+-- That of a coder's windows, in which different letters conflict. With p = 0 it says the same as `fromReachable` (`same-zero` of
+-- proofs/StartStates.antt).
 abbrev pub afterLetters : Machine → ℕ → Setting
-afterLetters M p = record { M = M; Start = StartAfter M p; Conflict = λ i j. i ≢ j }
+afterLetters M p = afterLettersWith M p (λ i j. i ≢ j)
 
 -- The setting of document 01 alone ("Coders and runs", fourth sentence): a run may start in any state. Where every state is reachable and
 -- no letter is for settling it says the same (`all-reachable` of proofs/SpareStates.antt).

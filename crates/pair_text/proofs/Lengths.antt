@@ -22,21 +22,26 @@ line-length word xs = omega (arith, length-append (word ++ spaced xs) lineFeed, 
 pub letters-length : (xs : List ℕ) → length (lettersLine xs) ≡ 8 + length (spaced xs)
 letters-length xs = omega (arith, line-length lettersWord xs)
 
+six-length :
+    (a b c d e f : ℕ) →
+    length (spaced (a ∷ b ∷ c ∷ d ∷ e ∷ f ∷ [])) ≡
+    6 + length (decimal a) + length (decimal b) + length (decimal c) + length (decimal d) + length (decimal e) + length (decimal f)
+six-length a b c d e f =
+    omega (
+      arith,
+      spaced-length (a ∷ b ∷ []) (c ∷ d ∷ e ∷ f ∷ []),
+      spaced-length (c ∷ d ∷ []) (e ∷ f ∷ []),
+      two-length a b,
+      two-length c d,
+      two-length e f,
+    )
+
 pub pair-length :
     (p : LoopedPair) →
     length (pairLine p) ≡
     11 + length (decimal (p .s)) + length (decimal (p .t)) + length (decimal (p .back-loop)) + length (decimal (p .lead-in)) +
     length (decimal (p .lead-out)) + length (decimal (p .forward-loop))
-pair-length p =
-    omega (
-      arith,
-      line-length pairWord (numbersOf p),
-      spaced-length (p .s ∷ p .t ∷ []) (p .back-loop ∷ p .lead-in ∷ p .lead-out ∷ p .forward-loop ∷ []),
-      spaced-length (p .back-loop ∷ p .lead-in ∷ []) (p .lead-out ∷ p .forward-loop ∷ []),
-      two-length (p .s) (p .t),
-      two-length (p .back-loop) (p .lead-in),
-      two-length (p .lead-out) (p .forward-loop),
-    )
+pair-length p = omega (arith, simp six-length at (line-length pairWord (numbersOf p)))
 
 pub text-length :
     (p : LoopedPair) → length (pairText p) ≡ 11 + length (pairLine p) + length (lettersLine (take (2 * letters p) (p .bytes)))

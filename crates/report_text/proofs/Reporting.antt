@@ -1,5 +1,6 @@
 -- From what the reader and the search say to the report's lines.
 use mathlib.Core.Path.{_≡_, refl, sym, ap, _∙_}
+use mathlib.Core.Bool.{true}
 use mathlib.Core.List.{List, _++_}
 use Prim.Native.Nat.{ℕ, zero, suc, _+_, _<_, _≤_}
 use native.Mathlib.Omega.{arith}
@@ -20,7 +21,8 @@ use Rattle.values.specs.declared.Window.{Window}
 use Rattle.values.specs.declared.LoopedPair.{LoopedPair}
 use Rattle.values.specs.Pair.{pairOf}
 use Rattle.values.specs.Order.{relationOf, defaultOrder}
-use Rattle.search.specs.Search.{searchRefusal, wanted, SaysOf, WindowReport, PairReport, FoundVerdict, SearchPromise}
+use Rattle.search.proofs.Files.{search-pass}
+use Rattle.search.specs.Search.{searchRefusalIn, wanted, SaysOf, WindowReport, PairReport, FoundVerdict, SearchPromise}
 use Rattle.search.specs.declared.SearchResult.{SearchResult}
 use Rattle.search.specs.declared.SearchResult.the-variants.{Refused as RefusedSearch, Found}
 use Rattle.search.specs.declared.Verdict.{Verdict}
@@ -106,9 +108,8 @@ report-accepted f {h} {n} {i} {o} e d w l v =
 -- ---- the search, with as many bytes as it wants on an accepted file: never refused
 
 module _ (f before after : List ℕ) (ok : fileRefusal f ≡ 0) (long : wanted ≡ length before) where
-  not-refused : searchRefusal f 0 (leb wanted (length before)) ≡ 0
-  unfolding searchRefusal
-  not-refused = let l : wanted ≤ length before = omega arith in rw (ok, le-leb wanted (length before) l)
+  not-refused : searchRefusalIn f 0 (length before) true ≡ 0
+  not-refused = let l : wanted ≤ length before = omega arith in rw (le-leb wanted (length before) l) (search-pass f 0 ok (omega arith))
 
   found : {r : SearchResult} → SearchPromise defaultOrder f 0 before r after → FoundVerdict defaultOrder f 0 r before after
   found p = rw not-refused at p

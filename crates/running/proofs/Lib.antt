@@ -1,3 +1,4 @@
 -- Laws of the coder run.
 pub mod Running
 pub mod Determined
+pub mod Hosting

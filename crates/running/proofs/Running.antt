@@ -17,7 +17,8 @@ use Rattle.coder.specs.File.{statesOf, inputsOf, fileRefusal, machineOf}
 use Rattle.coder.specs.Table.{coderOf, tableAt}
 use Rattle.running.specs.Run.{runRefusal, tablesMachine, Runnable, Ran, RunAsked}
 use Rattle.coder.specs.declared.inner.tables.Coder.{Coder}
-use Rattle.coder.proofs.Refusals.{refuse-not, first-none, letters-below, letters-higher}
+use Rattle.coder.proofs.Refusals.{refuse-not, first-none, letters-below}
+use Rattle.mealy.proofs.Letters.{letters-higher}
 use Rattle.coder.proofs.Accepted.{accepted}
 use Rattle.coder.proofs.Tables.{table-same, sound-coder}
 

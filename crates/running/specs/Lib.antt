@@ -1,2 +1,3 @@
 -- What the contracts of the coder run cite.
 pub mod Run
+pub mod Laid

@@ -1,7 +1,7 @@
 -- The coder run: its refusal, its result and what it leaves in the lent buffer.
 use Prim.Native.Nat.{ℕ, _<_, _≤_}
 use mathlib.Core.Path.{_≡_}
-use mathlib.Core.Bool.{Bool, true, not}
+use mathlib.Core.Bool.{Bool, true, not, _&&_}
 use mathlib.Core.List.{List, _++_}
 use lib.ListN.{length, drop}
 use lib.Dec.{ltb, leb}
@@ -23,17 +23,22 @@ runRefusal f s xs fits =
     (refuse (not (lettersBelow (inputsOf f) xs)) 12
     0)))
 
--- one output letter is written for each input letter
-abbrev pub runRefusalIn : List ℕ → ℕ → List ℕ → List ℕ → ℕ
-runRefusalIn f s xs before = runRefusal f s xs (leb (length xs) (length before))
+-- One output letter is written for each input letter, into a buffer of `room` bytes; `others` says whether the other lent buffers are long
+-- enough.
+abbrev pub runRefusalIn : List ℕ → ℕ → List ℕ → ℕ → Bool → ℕ
+runRefusalIn f s xs room others = runRefusal f s xs (leb (length xs) room && others)
 
 -- What a run returns and leaves in the lent buffer, which held `before` at the call (demand 2, first sentence; "Numbers of
 -- refusal", the sentences on refused calls, on bytes past what is written and on counts): the first refusal that applies and
 -- the buffer as it was; or the number of letters written and the end state, and the outputs of the file's machine with the
 -- buffer's old bytes after them.
-pub record RunPromise (f : List ℕ) (s : ℕ) (xs before : List ℕ) (r : RunResult) (after : List ℕ) : Type 0 where
-  pub result : r ≡ answer (runRefusalIn f s xs before) (λ k. Refused k) (Done (length xs) (end (machineOf f) s xs))
-  pub bytes : after ≡ answer (runRefusalIn f s xs before) (λ k. before) (outs (machineOf f) s xs ++ drop (length xs) before)
+pub record RunWith (f : List ℕ) (s : ℕ) (xs before : List ℕ) (others : Bool) (r : RunResult) (after : List ℕ) : Type 0 where
+  pub result : r ≡ answer (runRefusalIn f s xs (length before) others) (λ k. Refused k) (Done (length xs) (end (machineOf f) s xs))
+  pub bytes : after ≡ answer (runRefusalIn f s xs (length before) others) (λ k. before) (outs (machineOf f) s xs ++ drop (length xs) before)
+
+-- The library's own call lends no other buffer.
+abbrev pub RunPromise : List ℕ → ℕ → List ℕ → List ℕ → RunResult → List ℕ → Type 0
+RunPromise f s xs before r after = RunWith f s xs before true r after
 
 -- The end state of a run of M from s on xs, and the lent buffer after it, which held `before`.
 pub record Ran (M : Machine) (s : ℕ) (xs before : List ℕ) (last : ℕ) (after : List ℕ) : Type 0 where

@@ -1,14 +1,16 @@
-// No public calls: the run's refusal, and the run of a checked call.
+// No public calls: the run's refusal, the run of a checked call, and the run with other lent buffers besides its own.
 ghost use mathlib.Core.Path.{_≡_};
 ghost use Rattle.coder.specs.File.{machineOf};
-ghost use Rattle.running.specs.Run.{runRefusal, tablesMachine, Runnable, Ran, RunAsked};
+ghost use Rattle.running.specs.Run.{runRefusal, tablesMachine, Runnable, Ran, RunAsked, RunWith};
+use crate::RunResult;
 use coder::inner::bytes::byte;
 use coder::inner::bytes::letters_below;
 use coder::inner::tables::Coder;
 use coder::inner::tables::entry;
+use layout::inner::enough;
 
 // The refusal of a run, or 0. `fits` says whether all lent buffers are long enough.
-pub fn refusal(file: &[u8], start: usize, input: &[u8], fits: bool) -> usize
+fn refusal(file: &[u8], start: usize, input: &[u8], fits: bool) -> usize
     ensures { λ r. ⌜ r ≡ runRefusal (now (file .entry)) start (now (input .entry)) fits ⌝ }
 {
     let k = coder::inner::file::refusal(file);
@@ -54,10 +56,26 @@ fn letters<'a>(
 }
 
 // The same on a file, in a call that is not refused.
-pub fn checked(file: &[u8], start: usize, input: &[u8], output: &mut [u8]) -> usize
+fn checked(file: &[u8], start: usize, input: &[u8], output: &mut [u8]) -> usize
     requires { ⌜ RunAsked (now file) start (now input) (now output) ⌝ }
     ensures { λ r. ⌜ Ran (machineOf (now (file .entry))) start (now (input .entry)) (now (output .entry)) r (now (output .exit)) ⌝ }
 {
     let c = Coder::from_checked(file);
     letters(&c.next, &c.output, start, input, output)
+}
+
+// Runs the coder, where `others` says whether the lent buffers besides `output` are long enough.
+pub fn run(file: &[u8], start: usize, input: &[u8], output: &mut [u8], others: bool) -> RunResult
+    ensures { λ r. ⌜ RunWith (now (file .entry)) start (now (input .entry)) (now (output .entry)) others r (now (output .exit)) ⌝ }
+{
+    let fits = enough(input.len(), output.len(), others);
+    let k = refusal(file, start, input, fits);
+    if k != 0 {
+        return RunResult::Refused(k);
+    }
+    let end = checked(file, start, input, output);
+    RunResult::Done {
+        count: input.len(),
+        end,
+    }
 }

@@ -1,7 +1,8 @@
 // The coder run: the public call. docs/public-calls.md describes it.
 ghost use Rattle.running.specs.Run.{RunPromise};
 
-pub mod inner; // inner.rt: the run's refusal, and the run of a checked call
+pub mod inner; // inner.rt: the run with other lent buffers besides its own; no public calls
+pub mod host; // host.rt: the call from C
 
 // What a run returns: the refusal's number, or how many letters it wrote and the state in which it ended.
 pub enum RunResult {
@@ -13,13 +14,5 @@ pub enum RunResult {
 pub fn run(file: &[u8], start: usize, input: &[u8], output: &mut [u8]) -> RunResult
     ensures { λ r. ⌜ RunPromise (now (file .entry)) start (now (input .entry)) (now (output .entry)) r (now (output .exit)) ⌝ }
 {
-    let k = inner::refusal(file, start, input, input.len() <= output.len());
-    if k != 0 {
-        return RunResult::Refused(k);
-    }
-    let end = inner::checked(file, start, input, output);
-    RunResult::Done {
-        count: input.len(),
-        end,
-    }
+    inner::run(file, start, input, output, true)
 }

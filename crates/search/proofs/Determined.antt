@@ -1,11 +1,11 @@
 -- The promise of the search leaves nothing open: two outcomes for the same arguments are equal.
 use mathlib.Core.Path.{_≡_, refl, sym, ap, ap₂, _∙_}
+use mathlib.Core.Bool.{Bool, true}
 use mathlib.Core.Logic.{_↔_}
 use mathlib.Core.List.{List, _++_}
 use Prim.Native.Nat.{ℕ, zero, suc, _*_}
 use native.Mathlib.Omega.{arith}
 use lib.ListN.{length, take, drop, take-append-drop}
-use lib.Dec.{leb}
 use Rattle.mealy.specs.Setting.{Setting}
 use Rattle.mealy.specs.Window.{Works}
 use Rattle.mealy.specs.Order.{Relation, IsOrder}
@@ -26,7 +26,7 @@ use Rattle.values.specs.declared.Window.{Window}
 use Rattle.values.specs.declared.Order.{Order}
 use Rattle.values.specs.declared.LoopedPair.{LoopedPair}
 use Rattle.values.proofs.Orders.{is-order}
-use Rattle.search.specs.Search.{searchRefusal, wanted, PairReport, Says, SaysOf, IsNoDecoder, FoundVerdict, SearchPromise}
+use Rattle.search.specs.Search.{searchRefusalIn, PairReport, Says, SaysOf, IsNoDecoder, FoundVerdict, SearchWith, SearchPromise}
 use Rattle.search.specs.declared.Verdict.{Verdict}
 use Rattle.search.specs.declared.Verdict.the-variants.{Least, NoDecoder}
 use Rattle.search.specs.declared.SearchResult.{SearchResult}
@@ -37,16 +37,16 @@ use Rattle.search.proofs.Files.{search-accepted}
 
 -- no number applies, and its verdict says what it is to say
 pub record FoundSays (o : Order) (f : List ℕ) (p : ℕ) (before : List ℕ) (v : Verdict) (after : List ℕ) : Type 0 where
-  pub accepted : searchRefusal f p (leb wanted (length before)) ≡ 0
+  pub accepted : searchRefusalIn f p (length before) true ≡ 0
   pub says : SaysOf o f p v before after
 
 pub found :
     (o : Order) (f : List ℕ) (p : ℕ) (before : List ℕ) (v : Verdict) (after : List ℕ) → SearchPromise o f p before (Found v) after →
     FoundSays o f p before v after
-found o f p before v after = go (searchRefusal f p (leb wanted (length before))) refl
+found o f p before v after = go (searchRefusalIn f p (length before) true) refl
   where
     go :
-        (k : ℕ) → searchRefusal f p (leb wanted (length before)) ≡ k → SearchPromise o f p before (Found v) after →
+        (k : ℕ) → searchRefusalIn f p (length before) true ≡ k → SearchPromise o f p before (Found v) after →
         FoundSays o f p before v after
     go zero e h =
         let q : FoundVerdict o f p (Found v) before after = rw e at h in
@@ -129,7 +129,7 @@ pub pair-short :
 unfolding machineOf
 pair-short o f p before q after h =
     let s = found o f p before (NoDecoder q) after h in
-    let a = search-accepted f p (leb wanted (length before)) (s .accepted) .file in
+    let a = search-accepted f p _ (s .accepted) .file in
     first-short (settingOf f) (reachable-closed (machineOf f)) (file-bounded f (accepted f a)) (pairOf q after) (s .says .first)
 
 -- ---- two outcomes of one call
@@ -157,15 +157,16 @@ pub says-determined :
     SaysOf o f p v′ before after′ → (v ≡ v′) × (after ≡ after′)
 says-determined o f p = verdict-determined (is-order o) (settingAfter f p) (settingOf f) p
 
--- Two outcomes that meet the promise for the same arguments, the order among them, are equal: result and buffer.
+-- Two outcomes that meet the promise for the same arguments, the order among them, are equal, whatever other buffers are lent: result and
+-- buffer.
 pub search-determined :
-    (o : Order) (f : List ℕ) (p : ℕ) (before : List ℕ) (r r′ : SearchResult) (after after′ : List ℕ) →
-    SearchPromise o f p before r after → SearchPromise o f p before r′ after′ → (r ≡ r′) × (after ≡ after′)
-search-determined o f p before r r′ after after′ = go (searchRefusal f p (leb wanted (length before))) refl
+    (o : Order) (f : List ℕ) (p : ℕ) (before : List ℕ) (others : Bool) (r r′ : SearchResult) (after after′ : List ℕ) →
+    SearchWith o f p before others r after → SearchWith o f p before others r′ after′ → (r ≡ r′) × (after ≡ after′)
+search-determined o f p before others r r′ after after′ = go (searchRefusalIn f p (length before) others) refl
   where
     go :
-        (k : ℕ) → searchRefusal f p (leb wanted (length before)) ≡ k → SearchPromise o f p before r after →
-        SearchPromise o f p before r′ after′ → (r ≡ r′) × (after ≡ after′)
+        (k : ℕ) → searchRefusalIn f p (length before) others ≡ k → SearchWith o f p before others r after →
+        SearchWith o f p before others r′ after′ → (r ≡ r′) × (after ≡ after′)
     go zero e h h′ =
         let x = rw e at h in
         let y = rw e at h′ in

@@ -2,3 +2,5 @@
 pub mod Verdicts
 pub mod Files
 pub mod Determined
+pub mod Exists
+pub mod Hosting

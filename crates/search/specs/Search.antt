@@ -1,7 +1,7 @@
 -- The window search: its refusal, and what its verdict says.
 use Prim.Native.Nat.{ℕ, _*_, _≤_}
 use mathlib.Core.Path.{_≡_}
-use mathlib.Core.Bool.{Bool, not}
+use mathlib.Core.Bool.{Bool, true, not, _&&_}
 use mathlib.Core.List.{List}
 use lib.ListN.{length, drop}
 use lib.Dec.{leb}
@@ -12,9 +12,9 @@ use Rattle.mealy.specs.Product.{pairs}
 use Rattle.mealy.specs.LoopedPair.{letters, TurnedRuns}
 use Rattle.mealy.specs.First.{First}
 use Rattle.coder.specs.Refusal.{refuse, first, upon}
-use Rattle.coder.specs.Limits.{maxSettle}
 use Rattle.coder.specs.File.{fileRefusal, settingOf, settingAfter}
 pub use Rattle.loops.specs.Pair.{wanted}
+use Rattle.window_limits.specs.Refusal.{settleRefusal}
 use Rattle.values.specs.Order.{relationOf}
 use Rattle.values.specs.Pair.{pairOf}
 use Rattle.values.specs.declared.Window.{Window}
@@ -27,7 +27,11 @@ use Rattle.search.specs.declared.SearchResult.the-variants.{Refused, Fou
 
 -- The call's refusal, in checking order: the file's, 14 (the settle count p), then 11 (some lent buffer is too short).
 unfoldable pub searchRefusal : List ℕ → ℕ → Bool → ℕ
-searchRefusal f p fits = first (fileRefusal f) (refuse (not (leb p maxSettle)) 14 (refuse (not fits) 11 0))
+searchRefusal f p fits = first (fileRefusal f) (first (settleRefusal p) (refuse (not fits) 11 0))
+
+-- The letters of a looped pair go into a buffer of `room` bytes; `others` says whether the other lent buffers are long enough.
+abbrev pub searchRefusalIn : List ℕ → ℕ → ℕ → Bool → ℕ
+searchRefusalIn f p room others = searchRefusal f p (leb wanted room && others)
 
 -- Demand 3, third sentence ("Coders and runs" has the bound on the sides): the window has the settle count of the search, and is in R, the
 -- order that the search is made in, the least among all with that settle count that work (document 02, 6/13, the sentence on the search),
@@ -76,6 +80,10 @@ pub record RefusedSearch (k : ℕ) (r : SearchResult) (before after : List ℕ) 
 
 -- The first refusal that applies and the buffer as it was, or a verdict that is right for the file's machine, with the least window in the
 -- order o (document 02, 1/13) with the settle count p.
+abbrev pub SearchWith : Order → List ℕ → ℕ → List ℕ → Bool → SearchResult → List ℕ → Type 0
+SearchWith o f p before others r after =
+    upon (searchRefusalIn f p (length before) others) (λ k. RefusedSearch k r before after) (FoundVerdict o f p r before after)
+
+-- The library's own call lends no other buffer.
 abbrev pub SearchPromise : Order → List ℕ → ℕ → List ℕ → SearchResult → List ℕ → Type 0
-SearchPromise o f p before r after =
-    upon (searchRefusal f p (leb wanted (length before))) (λ k. RefusedSearch k r before after) (FoundVerdict o f p r before after)
+SearchPromise o f p before r after = SearchWith o f p before true r after

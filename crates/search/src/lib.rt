@@ -3,7 +3,8 @@ ghost use Rattle.values.specs.Order.{defaultOrder};
 ghost use Rattle.search.specs.Search.{SearchPromise};
 use values::Order;
 
-pub mod inner; // inner.rt: what the crates above call on checked bytes; no public calls
+pub mod inner; // inner.rt: the search with other lent buffers besides its own; no public calls
+pub mod host; // host.rt: the call from C
 
 // The least window that works, in the order of the search, or the first looped pair, which excludes every window; its letters lie in the
 // lent buffer.
@@ -30,9 +31,5 @@ pub fn search(file: &[u8], settle: usize, letters: &mut [u8]) -> SearchResult
 pub fn search_in_order(file: &[u8], order: Order, settle: usize, letters: &mut [u8]) -> SearchResult
     ensures { λ r. ⌜ SearchPromise order (now (file .entry)) settle (now (letters .entry)) r (now (letters .exit)) ⌝ }
 {
-    let k = inner::refusal(file, settle, inner::WANTED <= letters.len());
-    if k != 0 {
-        return SearchResult::Refused(k);
-    }
-    SearchResult::Found(inner::checked(file, order, settle, letters))
+    inner::search(file, order, settle, letters, true)
 }

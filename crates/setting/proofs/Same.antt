@@ -6,11 +6,11 @@ use Prim.Native.Nat.{ℕ, _<_}
 use native.Mathlib.Omega.{arith}
 use Rattle.mealy.specs.Machine.{Machine}
 use Rattle.mealy.specs.Word.{Has, Holds}
-use Rattle.mealy.specs.Setting.{Same, Closed, Bounded, afterLetters, worded}
+use Rattle.mealy.specs.Setting.{Same, Closed, Bounded, afterLettersWith, worded}
 use Rattle.mealy.proofs.Members.{holds-member}
 use Rattle.mealy.proofs.SameSettings.{same-sym, same-starts}
 use Rattle.mealy.proofs.StartStates.{after-closed, after-bounded}
-use Rattle.coder.specs.File.{machineOf, settingAfter}
+use Rattle.coder.specs.File.{machineOf}
 use Rattle.coder.specs.Table.{coderOf, machineOfCoder, Sound}
 use Rattle.coder.specs.declared.inner.tables.Coder.{Coder}
 use Rattle.coder.proofs.Accepted.{Accepted}
@@ -29,12 +29,12 @@ module _ (c : Coder) (p : ℕ) {starts : ℕ} (h : Holds (settingOfCoder c p .St
   pub word-bounded : Sound c → Bounded (fromWord c starts)
   word-bounded sound s q = coder-bounded c sound p s (holds-member h s q)
 
--- the setting of the words is that of the coder
+-- the setting of the words is that of the coder, whichever letters conflict
 words-same :
-    {c : Coder} {p starts : ℕ} {conflicts : List ℕ} → Sound c → WordsOf c p starts conflicts →
-    Same (worded (machineOfCoder c) starts conflicts) (settingOfCoder c p)
-words-same {c} {p} {starts} sound w =
-    let S = settingOfCoder c p in
+    {c : Coder} {p : ℕ} {C : ℕ → ℕ → Type 0} {starts : ℕ} {conflicts : List ℕ} → Sound c → WordsOf c p C starts conflicts →
+    Same (worded (machineOfCoder c) starts conflicts) (afterLettersWith (machineOfCoder c) p C)
+words-same {c} {p} {C} {starts} sound w =
+    let S = afterLettersWith (machineOfCoder c) p C in
     let h = sound .inputs-high in
     let start : (s : ℕ) → (s < c .states) × Has starts s → S .Start s = λ s q. holds-member (w .starts-are) s (q .1) in
     let start′ : (s : ℕ) → S .Start s → (s < c .states) × Has starts s = λ s q. (coder-bounded c sound p s q, w .starts-are .has s q) in
@@ -57,11 +57,12 @@ module _ {c : Coder} {f : List ℕ} (e : c ≡ coderOf f) (a : Accepted f) where
   pub coder-machine : machineOfCoder c ≡ machineOf f
   coder-machine = ap machineOfCoder e ∙ machine-same f a
 
-  module _ {p starts : ℕ} {conflicts : List ℕ} (w : WordsOf c p starts conflicts) where
-    -- the setting of the words is that of the file
-    pub same-setting : Same (worded (machineOfCoder c) starts conflicts) (settingAfter f p)
+  module _ {p : ℕ} {C : ℕ → ℕ → Type 0} {starts : ℕ} {conflicts : List ℕ} (w : WordsOf c p C starts conflicts) where
+    -- the setting of the words is that of the file: `settingAfter f p` where different letters conflict
+    pub same-setting : Same (worded (machineOfCoder c) starts conflicts) (afterLettersWith (machineOf f) p C)
     same-setting =
-        subst (λ (M : Machine). Same (worded (machineOfCoder c) starts conflicts) (afterLetters M p)) coder-machine (words-same coder-sound w)
+        subst (λ (M : Machine). Same (worded (machineOfCoder c) starts conflicts) (afterLettersWith M p C)) coder-machine
+        (words-same coder-sound w)
 
     pub words-closed : Closed (worded (machineOfCoder c) starts conflicts)
     words-closed = same-setting .closed

@@ -32,7 +32,7 @@ pub record ConflictsOf (C : ℕ → ℕ → Type 0) (words : List ℕ) : Type 0 
   pub conflict : (i j : ℕ) → i < maxInputs → j < maxInputs → C i j → Has (getD words i 0) j
   pub conflict′ : (i j : ℕ) → i < maxInputs → j < maxInputs → Has (getD words i 0) j → C i j
 
--- the words say the coder's setting for the settle count p
-pub record WordsOf (c : Coder) (p starts : ℕ) (conflicts : List ℕ) : Type 0 where
+-- the words say the coder's start states for the settle count p, and which letters conflict
+pub record WordsOf (c : Coder) (p : ℕ) (C : ℕ → ℕ → Type 0) (starts : ℕ) (conflicts : List ℕ) : Type 0 where
   pub starts-are : Holds (settingOfCoder c p .Start) starts
-  pub conflicts-are : ConflictsOf (settingOfCoder c p .Conflict) conflicts
+  pub conflicts-are : ConflictsOf C conflicts

@@ -11,7 +11,7 @@ use Rattle.mealy.specs.Index.{windowAt}
 use Rattle.mealy.specs.LoopedPair.{LoopedPair}
 use Rattle.mealy.specs.First.{First}
 use Rattle.mealy.proofs.SameSettings.{answers-same}
-use Rattle.coder.specs.Limits.{maxSettle}
+use Rattle.window_limits.specs.Refusal.{settleRefusal}
 use Rattle.coder.specs.File.{fileRefusal, outputsOf, machineOf, settingOf, settingAfter}
 use Rattle.coder.specs.Refusal.{upon}
 use Rattle.coder.proofs.Refusals.{upon-map}
@@ -21,11 +21,12 @@ use Rattle.values.specs.declared.Order.{Order}
 use Rattle.values.specs.declared.CountResult.{CountResult}
 use Rattle.fitting.specs.Answer.{meaning}
 use Rattle.fitting.proofs.Answers.{byte-same}
-use Rattle.search.specs.Search.{searchRefusal, wanted, SaysOf, FoundVerdict, RefusedSearch, SearchPromise}
+use Rattle.search.specs.Search.{searchRefusal, searchRefusalIn, SaysOf, FoundVerdict, RefusedSearch, SearchWith}
+use Rattle.search.specs.Laid.{laidSearch, SearchFromHost}
 use Rattle.search.specs.declared.Verdict.{Verdict}
 use Rattle.search.specs.declared.Verdict.the-variants.{Least, NoDecoder}
 use Rattle.search.specs.declared.SearchResult.{SearchResult}
-use Rattle.search.specs.declared.SearchResult.the-variants.{Refused}
+use Rattle.search.specs.declared.SearchResult.the-variants.{Refused, Found}
 use Rattle.search.proofs.Files.{says-same}
 use Rattle.search.proofs.Determined as search
 use Rattle.decoder.specs.Written.{Written}
@@ -36,16 +37,16 @@ use Rattle.decoder.specs.Table.{EntryOf, tableRefusalIn}
 use Rattle.decoder.specs.declared.WindowResult.the-variants as answer
 use Rattle.decoder.proofs.Writing.{written-map}
 use Rattle.decoder.proofs.Determined as decoder
-use Rattle.layout.specs.Layout.{withFields, verdictFields}
-use Rattle.lowhenita.specs.Host.{Hosted, BytesGiven, SearchHosted}
-use Rattle.lowhenita.proofs.Determined as host
+use Rattle.decoder_host.specs.Laid.{laidWindow}
+use Rattle.layout.specs.Host.{laidCount}
+use Rattle.layout.proofs.Hosting.{same-host, same-host-buffer}
 use Rattle.theorems.specs.SameAnswers.{SameAnswers, SameAnswersFromC}
 use Rattle.theorems.specs.SettleCounts.{verdictWith, resultWith}
 
 -- Calls on f with settle count p and on f′ with p′ are judged alike: by the file and the settle count, and by settings that say the same.
 pub record Alike (f f′ : List ℕ) (p p′ : ℕ) : Type 0 where
   pub file : fileRefusal f ≡ fileRefusal f′
-  pub small : leb p maxSettle ≡ leb p′ maxSettle
+  pub small : settleRefusal p ≡ settleRefusal p′
   pub outputs : outputsOf f ≡ outputsOf f′
   pub fewer : machineOf f .states ≤ machineOf f′ .states
   pub windows : Same (settingAfter f p) (settingAfter f′ p′)
@@ -65,19 +66,11 @@ count-map {n = n} {Q = Q} {Q′ = Q′} {before = before} {after = after} e d g 
           (p .bytes));
     }
 
-pub hosted-map :
-    {k k′ r : ℕ} {Stays Given Given′ : Type 0} → k ≡ k′ → (k ≡ 0 → Given → Given′) → Hosted k r Stays Given → Hosted k′ r Stays Given′
-hosted-map {Stays = Stays} {Given} {Given′} e g p =
-    record { number = p .number ∙ e; outcome = upon-map (λ j. Stays) Given Given′ e g (p .outcome) }
-
-bytes-map :
-    {n n′ : ℕ} {Q Q′ : ℕ → ℕ → Type 0} {before result after given : List ℕ} → n ≡ n′ → ((j v : ℕ) → Q j v → Q′ j v) →
-    BytesGiven n Q before result after given → BytesGiven n′ Q′ before result after given
-bytes-map d g p = rw (← d) (record { bytes = written-map (λ j v l. g j v) (p .bytes); fields = p .fields })
-
-fields-with : (p : ℕ) (v : Verdict) → verdictFields v ≡ verdictFields (verdictWith p v)
-fields-with p (Least w) = refl
-fields-with p (NoDecoder q) = refl
+-- the settle count of a window is not among the fields
+laid-with : (p : ℕ) (r : SearchResult) → laidSearch r ≡ laidSearch (resultWith p r)
+laid-with p (Refused k) = refl
+laid-with p (Found (Least w)) = refl
+laid-with p (Found (NoDecoder q)) = refl
 
 module _ {f f′ : List ℕ} {p p′ : ℕ} (h : Alike f f′ p p′) where
   -- ---- the refusals
@@ -136,11 +129,11 @@ module _ {f f′ : List ℕ} {p p′ : ℕ} (h : Alike f f′ p p′) where
       record { none = t .none; first = t .first; turned = t .turned; size = t .size; rest = t .rest }
 
   search-with :
-      (o : Order) (before after : List ℕ) (r : SearchResult) → SearchPromise o f p before r after →
-      SearchPromise o f′ p′ before (resultWith p′ r) after
-  search-with o before after r s =
-      let fits = leb wanted (length before) in
-      go (searchRefusal f p fits) (searchRefusal f′ p′ fits) (search-number fits) s
+      (o : Order) (before after : List ℕ) (others : Bool) (r : SearchResult) → SearchWith o f p before others r after →
+      SearchWith o f′ p′ before others (resultWith p′ r) after
+  search-with o before after others r s =
+      let n = length before in
+      go (searchRefusalIn f p n others) (searchRefusalIn f′ p′ n others) (search-number _) s
     where
       go :
           (k k′ : ℕ) → k ≡ k′ → upon k (λ j. RefusedSearch j r before after) (FoundVerdict o f p r before after) →
@@ -158,32 +151,27 @@ module _ {f f′ : List ℕ} {p p′ : ℕ} (h : Alike f f′ p p′) where
   -- ---- the outcomes
 
   pub search-alike :
-      (o : Order) (before : List ℕ) (r r′ : SearchResult) (after after′ : List ℕ) → SearchPromise o f p before r after →
-      SearchPromise o f′ p′ before r′ after′ → (resultWith p′ r ≡ r′) × (after ≡ after′)
-  search-alike o before r r′ after after′ s =
-      search.search-determined o f′ p′ before (resultWith p′ r) r′ after after′ (search-with o before after r s)
+      (o : Order) (before : List ℕ) (others : Bool) (r r′ : SearchResult) (after after′ : List ℕ) → SearchWith o f p before others r after →
+      SearchWith o f′ p′ before others r′ after′ → (resultWith p′ r ≡ r′) × (after ≡ after′)
+  search-alike o before others r r′ after after′ s =
+      search.search-determined o f′ p′ before others (resultWith p′ r) r′ after after′ (search-with o before after others r s)
 
   pub search-alike-from-C :
-      (before result : List ℕ) (r r′ : ℕ) (after after′ given given′ : List ℕ) → SearchHosted f p before result r after given →
-      SearchHosted f′ p′ before result r′ after′ given′ → (r ≡ r′) × ((after ≡ after′) × (given ≡ given′))
-  search-alike-from-C before result r r′ after after′ given given′ s =
-      host.search-determined f′ p′ before result r r′ after after′ given given′
-      (hosted-map (search-number _)
-      (λ z g.
-      record {
-        verdict = verdictWith p′ (g .verdict);
-        says = says-alike defaultOrder (g .verdict) before after (g .says);
-        fields = g .fields ∙ ap (withFields result) (fields-with p′ (g .verdict));
-      })
-      s)
+      (before result : List ℕ) (r r′ : ℕ) (after after′ given given′ : List ℕ) → SearchFromHost f p before result r after given →
+      SearchFromHost f′ p′ before result r′ after′ given′ → (r ≡ r′) × ((after ≡ after′) × (given ≡ given′))
+  search-alike-from-C before result r r′ after after′ given given′ =
+      same-host-buffer
+      (λ own own′ x y.
+      let e = search-alike defaultOrder before _ own own′ after after′ x y in
+      (laid-with p′ own ∙ ap laidSearch (e .0), e .1))
 
   pub answers-alike : SameAnswers f f′ p p′
   answers-alike =
       record {
-        window = λ b a received r r′ x y.
-            decoder.window-determined f′ (window b a p′) received r r′
+        window = λ b a received others r r′ x y.
+            decoder.window-determined f′ (window b a p′) received others r r′
             (upon-map (λ k. r ≡ answer.Refused k) (AnsweredRight f (window b a p) received r)
-            (AnsweredRight f′ (window b a p′) received r) (window-number b a received true)
+            (AnsweredRight f′ (window b a p′) received r) (window-number b a received others)
             (λ z g.
             record {
               answer = g .answer;
@@ -192,28 +180,22 @@ module _ {f f′ : List ℕ} {p p′ : ℕ} (h : Alike f f′ p p′) where
             })
             x)
             y;
-        string = λ b a received before r r′ after after′ x y.
-            decoder.string-determined f′ (window b a p′) received before r r′ after after′
+        string = λ b a received before others r r′ after after′ x y.
+            decoder.string-determined f′ (window b a p′) received before others r r′ after after′
             (count-map (string-number b a received _) refl (λ k v. byte-same (h .windows) (take (size (window b a p)) (drop k received)) b v) x) y;
-        table = λ b a before r r′ after after′ x y.
-            decoder.table-determined f′ (window b a p′) before r r′ after after′
-            (count-map (table-number-in b a _ true) (table-size b a) (entry-alike b a) x) y;
+        table = λ b a before others r r′ after after′ x y.
+            decoder.table-determined f′ (window b a p′) before others r r′ after after′
+            (count-map (table-number-in b a _ others) (table-size b a) (entry-alike b a) x) y;
       }
 
-  pub answers-alike-from-C : SameAnswersFromC f f′ p p′
-  answers-alike-from-C =
-      record {
-        window = λ b a received result r r′ given given′ x y.
-            host.window-determined f′ (window b a p′) received result given given′ r r′
-            (hosted-map (window-number b a received _)
-            (λ z g. record { byte = g .byte; right = byte-same (h .windows) received b (g .byte) (g .right); fields = g .fields }) x)
-            y;
-        string = λ b a received before result r r′ after after′ given given′ x y.
-            host.decode-determined f′ (window b a p′) received before result r r′ after after′ given given′
-            (hosted-map (string-number b a received _)
-            (λ z. bytes-map refl (λ k v. byte-same (h .windows) (take (size (window b a p)) (drop k received)) b v)) x)
-            y;
-        table = λ b a before result r r′ after after′ given given′ x y.
-            host.table-determined f′ (window b a p′) before result r r′ after after′ given given′
-            (hosted-map (table-number-in b a _ _) (λ z. bytes-map (table-size b a) (entry-alike b a)) x) y;
-      }
+-- the same from C
+pub answers-from-C : {f f′ : List ℕ} {p p′ : ℕ} → SameAnswers f f′ p p′ → SameAnswersFromC f f′ p p′
+answers-from-C h =
+    record {
+      window = λ b a received result r r′ given given′. same-host (λ own own′ x y. ap laidWindow (h .window b a received _ own own′ x y));
+      string = λ b a received before result r r′ after after′ given given′.
+          same-host-buffer
+          (λ own own′ x y. let e = h .string b a received before _ own own′ after after′ x y in (ap laidCount (e .0), e .1));
+      table = λ b a before result r r′ after after′ given given′.
+          same-host-buffer (λ own own′ x y. let e = h .table b a before _ own own′ after after′ x y in (ap laidCount (e .0), e .1));
+    }

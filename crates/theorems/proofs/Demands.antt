@@ -1,6 +1,6 @@
 -- The three demands hold.
 use mathlib.Core.Path.{_≡_, refl, sym, ap, subst, _∙_}
-use mathlib.Core.Bool.{Bool, true, _&&_}
+use mathlib.Core.Bool.{Bool, true}
 use mathlib.Core.List.{List, [], _++_}
 use Prim.Native.Nat.{ℕ, zero, suc, _+_, _<_}
 use native.Mathlib.Omega.{arith}
@@ -10,14 +10,14 @@ use lib.Dec.{leb}
 use Rattle.mealy.specs.Machine.{outs, end}
 use Rattle.mealy.specs.Setting.{Setting}
 use Rattle.mealy.specs.Answer as theory
-use Rattle.mealy.specs.Answer.{Answers}
+use Rattle.mealy.specs.Answer.{Answers, byteOf}
 use Rattle.mealy.specs.Index.{windowAt}
 use Rattle.mealy.proofs.Answers.{length-outs, answer-unique, none↔no-run}
 use Rattle.mealy.proofs.Indices.{length-window}
 use Rattle.coder.specs.Refusal.{upon, answer}
 use Rattle.coder.specs.File.{entriesOf, fileOf, fileRefusal, outputsOf, machineOf}
 use Rattle.coder.proofs.Refusals.{both-right}
-use Rattle.running.specs.Run.{runRefusal, runRefusalIn, RunPromise}
+use Rattle.running.specs.Run.{runRefusalIn, RunPromise}
 use Rattle.running.specs.declared.RunResult as run-result
 use Rattle.values.specs.Window.{size}
 use Rattle.values.specs.declared.Window.{Window}
@@ -35,7 +35,7 @@ use Rattle.decoder.specs.Places.{places}
 use Rattle.decoder.specs.Window.{windowSetting, AnsweredRight, WindowPromise}
 use Rattle.decoder.specs.declared.WindowResult as window-result
 use Rattle.decoder.proofs.Accepting.{window-accepted}
-use Rattle.search.specs.Search.{searchRefusal, wanted, SaysOf, RefusedSearch, SearchPromise}
+use Rattle.search.specs.Search.{searchRefusalIn, SaysOf, RefusedSearch, SearchPromise}
 use Rattle.search.specs.declared.SearchResult.{SearchResult}
 use Rattle.search.specs.declared.SearchResult as search-result
 use Rattle.search.specs.declared.SearchResult.the-variants.{Found}
@@ -43,13 +43,14 @@ use Rattle.search.specs.declared.Verdict.{Verdict}
 use Rattle.search.specs.declared.Verdict.the-variants.{Least, NoDecoder}
 use Rattle.search.proofs.Determined.{found, no-decoder-exactly}
 use Rattle.checker.specs.Check.{checkRefusal}
-use Rattle.writer.specs.Write.{writeRefusal, writeRefusalIn}
-use Rattle.lowhenita.specs.Host.{roomy, Hosted}
-use Rattle.theorems.specs.Published.{longEnough, givenResult}
-use Rattle.theorems.specs.Demands.{Demand1, Said, SaidByte, Demand2, Demand3, NoLater, Demanded, FromC}
+use Rattle.writer.specs.Write.{writeRefusalIn}
+use Rattle.layout.specs.Host.{roomy, Handed}
+use Rattle.layout.proofs.Hosting.{no-fields, from-host}
+use Rattle.theorems.specs.Published.{longEnough}
+use Rattle.theorems.specs.Demands.{Demand1, Said, byteSaid, SaidByte, Demand2, Demand3, NoLater, Demanded, FromC}
 use Rattle.theorems.proofs.Published.{file-published, run-published, search-published, check-published, window-published, string-published, table-published, write-published}
 use Rattle.theorems.proofs.Counted.{counted}
-use Rattle.theorems.proofs.Handing.{search-found, run-handed, search-handed, decode-handed, table-handed, check-handed, window-handed, write-handed}
+use Rattle.theorems.proofs.HostReads.{search-found}
 use Rattle.theorems.proofs.RoundTrip.{round-trip}
 use Rattle.theorems.proofs.HostRoundTrip.{host-round-trip}
 
@@ -90,51 +91,24 @@ search-upon :
 search-upon zero Answered r before after p = p
 search-upon (suc k) Answered r before after p = (p .is, p .stays)
 
--- ---- lent buffers: one alone, and with the result buffer besides
-
-one-more : (t : Bool) (result : List ℕ) → (t && roomy result) ≡ (t && longEnough (givenResult result))
-one-more t result = ap (λ (x : Bool). t && x) (sym (both-right (roomy result)))
-
-hosted-moved : {k k′ r : ℕ} {Stays Given : Type 0} → k ≡ k′ → Hosted k r Stays Given → Hosted k′ r Stays Given
-hosted-moved {k} {k′} {r} {Stays} {Given} e = subst (λ (j : ℕ). Hosted j r Stays Given) e
-
 pub demand-1 : Demand1
 demand-1 = record {
   counts = λ f r p. moved _ _ (file-published f) (by-answer (fileRefusal f) _ _ p);
   entries = λ f file place part p. moved _ _ (file-published f) (entries-upon f file place part (fileRefusal f) (p .bytes) (p .block) (p .offset));
-  run = λ f s xs before r after p.
-      moved _ _ (ap (runRefusal f s xs) (sym (both-right (leb (length xs) (length before)))) ∙ run-published f s xs before [])
-      (both-answers (runRefusalIn f s xs before) _ _ _ _ (p .result) (p .bytes));
-  window = λ f w received r p. moved _ _ (window-published f w received []) p;
-  string = λ f w received before r after p.
-      moved _ _ (string-published f w received before []) (count-upon _ _ _ before r after p);
-  table = λ f w before r after p. moved _ _ (table-published f w before []) (count-upon _ _ _ before r after p);
-  search = λ o f p before r after h.
-      moved _ _ (ap (searchRefusal f p) (sym (both-right (leb wanted (length before)))) ∙ search-published f p before [])
-      (search-upon (searchRefusal f p (leb wanted (length before))) _ r before after h);
-  check = λ f p r q. moved _ _ (check-published f p []) q;
-  write = λ n i o entries before r after p.
-      moved _ _ (write-published n i o entries before [])
-      (both-answers (writeRefusalIn n i o entries (length before) true) _ _ _ _ (p .result) (p .bytes));
-  run-from-C = λ f s xs before result r after result′.
-      hosted-moved (ap (runRefusal f s xs) (one-more (leb (length xs) (length before)) result) ∙ run-published f s xs before (givenResult result));
-  search-from-C = λ f p before result r after result′.
-      hosted-moved (ap (searchRefusal f p) (one-more (leb wanted (length before)) result) ∙ search-published f p before (givenResult result));
-  decode-from-C = λ f w received before result r after result′.
-      hosted-moved
-      (ap (stringRefusal f w received) (one-more (leb (places (length received) w) (length before)) result) ∙
-      string-published f w received before (givenResult result));
-  table-from-C = λ f w before result r after result′.
-      hosted-moved
-      (ap (tableRefusal f w) (one-more (leb (tableSize (outputsOf f) w) (length before)) result) ∙
-      table-published f w before (givenResult result));
-  check-from-C = λ f p result r result′. hosted-moved (ap (checkRefusal f p) (one-more true result) ∙ check-published f p (givenResult result));
-  window-from-C = λ f w received result r result′.
-      hosted-moved (ap (windowRefusal f w received) (one-more true result) ∙ window-published f w received (givenResult result));
-  write-from-C = λ n i o entries before result r after result′.
-      hosted-moved
-      (ap (writeRefusal n i o entries) (one-more (leb (length (fileOf n i o entries)) (length before)) result) ∙
-      write-published n i o entries before (givenResult result));
+  run = λ f s xs before others r after p.
+      moved _ _ (run-published f s xs before others)
+      (both-answers (runRefusalIn f s xs (length before) (longEnough others)) _ _ _ _ (p .result) (p .bytes));
+  window = λ f w received others r p. moved _ _ (window-published f w received others) p;
+  string = λ f w received before others r after p.
+      moved _ _ (string-published f w received before others) (count-upon _ _ _ before r after p);
+  table = λ f w before others r after p. moved _ _ (table-published f w before others) (count-upon _ _ _ before r after p);
+  search = λ o f p before others r after h.
+      moved _ _ (search-published f p before others)
+      (search-upon (searchRefusalIn f p (length before) (longEnough others)) _ r before after h);
+  check = λ f p others r q. moved _ _ (check-published f p others) q;
+  write = λ n i o entries before others r after p.
+      moved _ _ (write-published n i o entries before others)
+      (both-answers (writeRefusalIn n i o entries (length before) (longEnough others)) _ _ _ _ (p .result) (p .bytes));
 }
 
 -- ---- demand 2
@@ -143,7 +117,7 @@ run-done :
     (f : List ℕ) (s : ℕ) (xs before : List ℕ) (n e : ℕ) (after : List ℕ) →
     RunPromise f s xs before (run-result.the-variants.Done n e) after →
     (n ≡ length xs) × (e ≡ end (machineOf f) s xs) × (take n after ≡ outs (machineOf f) s xs)
-run-done f s xs before n e after p = go (runRefusalIn f s xs before) (p .result) (p .bytes)
+run-done f s xs before n e after p = go (runRefusalIn f s xs (length before) true) (p .result) (p .bytes)
   where
     o : List ℕ
     o = outs (machineOf f) s xs
@@ -189,7 +163,12 @@ said S w b l v h =
     }
 
 said-byte : (S : Setting) (w : List ℕ) (b v : ℕ) → b < length w → RightByte S w b v → SaidByte S w b v
-said-byte S w b v l r = record { answer = r .answer; said = said S w b l (r .answer) (r .right); byte = r .byte }
+said-byte S w b v l r = record { answer = r .answer; said = said S w b l (r .answer) (r .right); byte = r .byte ∙ bytes (r .answer) }
+  where
+    bytes : (x : theory.Answer) → byteOf x ≡ byteSaid x
+    bytes (theory.letter x) = refl
+    bytes theory.none = refl
+    bytes theory.several = refl
 
 pub demand-2 : Demand2
 demand-2 = record {
@@ -254,11 +233,8 @@ demand-3 = record {
 
 pub from-c : FromC
 from-c = record {
-  run = λ f s xs before result r after result′ long h. run-handed result long f s xs before r after result′ h;
-  search = λ f p before result r after result′ long h. search-handed result long f p before r after result′ h;
-  decode = λ f w received before result r after result′ long h. decode-handed result long f w received before r after result′ h;
-  table = λ f w before result r after result′ long h. table-handed result long f w before r after result′ h;
-  check = λ f p result r result′ long h. check-handed result long f p r result′ h;
-  window = λ f w received result r result′ long h. window-handed result long f w received r result′ h;
-  write = λ n i o entries before result r after result′ long h. write-handed result long n i o entries before r after result′ h;
+  call = λ Promise laid result r result′ h.
+      subst (λ (t : Bool). Handed (Promise t) laid result r result′) (sym (both-right (roomy result))) h;
+  refused = λ k result r result′ h. (h .number, h .fields ∙ no-fields result);
+  own = λ Promise laid result r result′ long h. from-host Promise laid long h;
 }

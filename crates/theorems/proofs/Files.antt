@@ -15,19 +15,18 @@ use Rattle.coder.specs.declared.Header.the-variants.{Counts}
 use Rattle.coder.proofs.Accepted.{entries-accepted, entries-high, coder-accepted, file-entries}
 use Rattle.coder.proofs.Inverse.{read-written, written-read, file-bytes}
 use Rattle.values.specs.declared.CountResult.{CountResult}
-use Rattle.values.specs.declared.CountResult.the-variants.{Done}
+use Rattle.values.specs.declared.CountResult.the-variants.{Refused, Done}
 use Rattle.placing.specs.Placed.{withFront}
-use Rattle.writer.specs.Write.{FilePromise, WroteFile, WritePromise}
+use Rattle.writer.specs.Write.{writeRefusalIn, FilePromise, WroteFile, WriteWith, WritePromise}
+use Rattle.writer.specs.Laid.{WriteFromHost}
 use Rattle.writer.proofs.Writing.{length-file, write-accepted, write-given}
+use Rattle.writer.proofs.Hosting.{write-others}
 use Rattle.layout.specs.Layout.{resultBytes, fieldAt}
-use Rattle.layout.proofs.Reading.{field-at}
-use Rattle.lowhenita.specs.Host.{WriteHosted}
-use Rattle.lowhenita.proofs.Handing.{accepted-write}
+use Rattle.layout.specs.Host.{laidCount}
+use Rattle.layout.proofs.Hosting.{not-refused, from-host, answered-host}
 use Rattle.theorems.specs.Files.{Read, ReadsBack, WrittenRead, WrittenReadFromC, WritesBack, OneFile, ReaderAndWriter}
 use Rattle.theorems.specs.RoundTrip.{FieldHolds}
-use Rattle.theorems.specs.Handed.{laidCount}
-use Rattle.theorems.proofs.Handing.{given, write-handed}
-use Rattle.theorems.proofs.HostRoundTrip.{first-read}
+use Rattle.theorems.proofs.HostReads.{first-read}
 
 -- ---- the file of counts and entries within the limits
 
@@ -95,12 +94,16 @@ written n i o entries before m after p =
 
 written-from-C : WrittenReadFromC
 written-from-C n i o entries before result after result′ h =
-    let g = given h in
-    let e = accepted-write n i o entries before result (sym (h .number)) .asked .none in
-    let m : fieldAt result′ 0 ≡ length (fileOf n i o entries) =
-    rw (g .fields) (field-at result (length (fileOf n i o entries) ∷ []) 0 (omega arith) (small n i o entries e)) in
-    let front : take (fieldAt result′ 0) after ≡ fileOf n i o entries =
-    rw (m, g .bytes) (take-at (fileOf n i o entries) _ (length (fileOf n i o entries)) refl) in
+    let g =
+    answered-host (λ others own. WriteWith n i o entries before others own after) laidCount
+    (λ others own. write-others n i o entries before after others own) (omega arith) h in
+    let z = not-refused laidCount (writeRefusalIn n i o entries (length before) true) (λ j. Refused j) _ (λ j. refl) (g .promised .result)
+    (sym (g .out .number)) in
+    let e = write-accepted n i o entries before true z .asked .none in
+    let file = fileOf n i o entries in
+    let m = first-read result (laidCount (g .own)) (length file) [] (ap laidCount (rw z at (g .promised .result))) (small n i o entries e)
+    (g .out) .1 in
+    let front : take (fieldAt result′ 0) after ≡ file = rw (m, (rw z at (g .promised .bytes))) (take-at file _ (length file) refl) in
     subst (ReadsBack n i o entries) (sym front) (reads-back n i o entries e)
 
 -- ---- what was read
@@ -125,13 +128,14 @@ module _ (f : List ℕ) (bytes : Letters 256 f) (z : fileRefusal f ≡ 0) where
 
   rewritten-from-C :
       (before result : List ℕ) (r : ℕ) (after result′ : List ℕ) → length f ≤ length before → resultBytes ≤ length result →
-      WriteHosted (statesOf f) (inputsOf f) (outputsOf f) (entriesOf f) before result r after result′ →
+      WriteFromHost (statesOf f) (inputsOf f) (outputsOf f) (entriesOf f) before result r after result′ →
       (r ≡ 0) × (fieldAt result′ 0 ≡ length f) × (after ≡ withFront f before)
   rewritten-from-C before result r after result′ room long h =
-      let g = write-handed result long (statesOf f) (inputsOf f) (outputsOf f) (entriesOf f) before r after result′ h in
+      let g =
+      from-host (λ others own. WriteWith (statesOf f) (inputsOf f) (outputsOf f) (entriesOf f) before others own after) laidCount long h in
       let b = back before (g .own) after room (g .promised) in
       let few = subst (λ (x : List ℕ). FieldHolds (length x)) (read-written f bytes z) (small _ _ _ _ (file-entries f z)) in
-      let x = first-read result (laidCount (g .own)) (length f) [] (ap laidCount (b .result)) few (g .number) (g .fields) in
+      let x = first-read result (laidCount (g .own)) (length f) [] (ap laidCount (b .result)) few (g .out) in
       (x .0, x .1, b .bytes)
 
 pub reader-and-writer : ReaderAndWriter

@@ -1,4 +1,4 @@
--- Each call is refused as the published list says, for what the call is given.
+-- Each call is refused as the rules about what it is given say, and the numbers of these follow the published order.
 use mathlib.Core.Path.{_≡_, refl, sym, ap, _∙_}
 use mathlib.Core.Bool.{Bool, true, false, not, _&&_}
 use mathlib.Core.List.{List, [], _∷_, _++_}
@@ -6,44 +6,29 @@ use Prim.Native.Nat.{ℕ, zero, suc, _+_, _-_, _*_, _≤_}
 use native.Mathlib.Decide.{ℕ-discrete}
 use native.Mathlib.Omega.{arith}
 use lib.ListN.{length, length-drop}
-use lib.Dec.{ltb, leb, eqb}
+use lib.Dec.{ltb, eqb}
 use borrow.Author.Tests.{eq-eqb, ne-eqb, ltb-false, eqb-true}
-use Rattle.mealy.specs.LoopedPair.{LoopedPair}
-use Rattle.coder.specs.Refusal.{refuse, first, allBelow}
-use Rattle.coder.specs.Limits.{maxSide, maxSettle}
-use Rattle.coder.specs.Alphabet.{allNamed}
-use Rattle.coder.specs.File.{versionOf, countField, statesOf, inputsOf, outputsOf, entriesOf, inRange, entryInRange, entriesRefusal, fileRefusal}
-use Rattle.coder.proofs.Refusals.{both-right}
-use Rattle.running.specs.Run.{runRefusal}
+use Rattle.mealy.specs.LoopedPair.{LoopedPair, letters}
+use Rattle.coder.specs.Refusal.{first}
+use Rattle.coder.specs.File.{versionOf, countField, statesOf, inputsOf, outputsOf, entriesOf, fileOf, inRange, entriesRefusal, fileRefusal}
+use Rattle.running.specs.Run.{runRefusal, runRefusalIn}
 use Rattle.values.specs.Window.{size}
 use Rattle.values.specs.declared.Window.{Window}
-use Rattle.table_size.specs.Size.{maxTable}
+use Rattle.window_limits.specs.Refusal.{sidesRefusal, settleRefusal}
 use Rattle.decoder.specs.Refusal.{limitsRefusal, windowRefusal, stringRefusal, tableSize, tableRefusal}
-use Rattle.search.specs.Search.{searchRefusal}
-use Rattle.writer.specs.Write.{writeRefusal}
+use Rattle.decoder.specs.Places.{places, stringRefusalIn}
+use Rattle.decoder.specs.Table.{tableRefusalIn}
+use Rattle.search.specs.Search.{searchRefusal, searchRefusalIn}
+use Rattle.writer.specs.Write.{writeRefusal, writeRefusalIn}
 use Rattle.checker.specs.Check.{checkRefusal}
-use Rattle.theorems.proofs.Rules.{first-before}
-use Rattle.theorems.specs.Published.{Bytes, parts, coderRules, alphabetRule, firstNumber, longEnough, refusalOf, givenFile, givenRun, givenSearch, givenCheck, givenWindow, givenString, givenTable, givenWrite}
+use Rattle.theorems.specs.Published.{Rule, firstNumber, startRule, sidesRule, settleRule, numberRule, tableRule, Bytes, lent, longEnough, buffersRule, inputsRule, receivedRule, fileRules, partsRules, windowRules, givenRun, givenSearch, givenCheck, givenWindow, givenString, givenTable, givenWrite, follows, CallsInOrder}
+use Rattle.theorems.proofs.Rules.{first-joined, asked-both}
 
--- ---- numbers 1 to 6 and 15
+-- ---- a coder: counts and entries, and a file
 
--- counts and entry bytes, in front of others
-parts-first :
-    (n i o : ℕ) (entries : List ℕ) (x : ℕ) →
-    let c = parts n i o entries in
-    firstNumber (coderRules c ++ (alphabetRule c ∷ record { number = x; applies = true } ∷ [])) ≡ first (entriesRefusal n i o entries) x
-unfolding entriesRefusal
-parts-first n i o entries x =
-    let c = parts n i o entries in
-    first-before (coderRules c ++ (alphabetRule c ∷ [])) x refl
-
-first-zero : (k : ℕ) → first k 0 ≡ k
-first-zero zero = refl
-first-zero (suc k) = refl
-
-first-first : (a b x : ℕ) → first (first a b) x ≡ first a (first b x)
-first-first zero b x = refl
-first-first (suc a) b x = refl
+pub parts-published : (n i o : ℕ) (entries : List ℕ) → entriesRefusal n i o entries ≡ firstNumber (partsRules n i o entries)
+unfolding entriesRefusal inRange
+parts-published n i o entries = refl
 
 module _ (f : List ℕ) where
   abbrev entries : ℕ
@@ -62,93 +47,115 @@ module _ (f : List ℕ) where
             (ne-eqb (countField f) (3 + 2 * entries) (λ q. p (omega arith)))
       ]
 
-  abbrev fileFirst : ℕ → ℕ
-  fileFirst x =
-      refuse (ltb (length f) 6) 1
-      (refuse (not (eqb (versionOf f) 1)) 2
-      (refuse (not (eqb (countField f) (length f - 3))) 3
-      (refuse (not (inRange (statesOf f) (inputsOf f) (outputsOf f))) 4
-      (refuse (not (eqb (countField f) (3 + 2 * entries))) 5
-      (refuse (not (allBelow entries (entryInRange (statesOf f) (outputsOf f) (entriesOf f)))) 6
-      (refuse (not (allNamed (outputsOf f) entries (entriesOf f))) 15
-      x))))))
-
-  file-first : (x : ℕ) → fileFirst x ≡ first (fileRefusal f) x
-  unfolding fileRefusal entriesRefusal
-  file-first x = go (ltb (length f) 6) (eqb (versionOf f) 1) (eqb (countField f) (length f - 3)) refl refl refl
+  pub file-published : fileRefusal f ≡ firstNumber (fileRules f)
+  unfolding fileRefusal
+  file-published = go (ltb (length f) 6) (eqb (versionOf f) 1) (eqb (countField f) (length f - 3)) refl refl refl
     where
       go :
           (a b c : Bool) → ltb (length f) 6 ≡ a → eqb (versionOf f) 1 ≡ b → eqb (countField f) (length f - 3) ≡ c →
-          fileFirst x ≡ first (fileRefusal f) x
+          fileRefusal f ≡ firstNumber (fileRules f)
       go true b c p q r = rw p
       go false false c p q r = rw (p, q)
       go false true false p q r = rw (p, q, r)
       go false true true p q r =
           rw (p, q, r, size-test (ltb-false _ _ p) (eqb-true _ _ r))
-          (parts-first (statesOf f) (inputsOf f) (outputsOf f) (entriesOf f) x)
+          (parts-published (statesOf f) (inputsOf f) (outputsOf f) (entriesOf f))
 
-  pub file-published : fileRefusal f ≡ refusalOf (givenFile f)
-  file-published = sym (file-first 0 ∙ first-zero (fileRefusal f))
+  -- in front of other rules
+  file-first : (rs : List Rule) → first (fileRefusal f) (firstNumber rs) ≡ firstNumber (fileRules f ++ rs)
+  file-first rs = ap (λ k. first k (firstNumber rs)) file-published ∙ sym (first-joined (fileRules f) rs refl)
 
   -- ---- the calls
 
   pub run-published :
-      (s : ℕ) (xs before : List ℕ) (more : List Bytes) →
-      runRefusal f s xs (longEnough (givenRun f s xs before more .buffers)) ≡ refusalOf (givenRun f s xs before more)
+      (s : ℕ) (xs before : List ℕ) (others : List Bytes) →
+      runRefusalIn f s xs (length before) (longEnough others) ≡ firstNumber (givenRun f s xs before others)
   unfolding runRefusal
-  run-published s xs before more = sym (rw (both-right (ltb s (statesOf f))) (file-first _))
+  run-published s xs before others =
+      file-first (startRule f s ∷ buffersRule (lent before (length xs) ∷ others) ∷ inputsRule f xs ∷ [])
+
+  settle-first : (p : ℕ) (rs : List Rule) → first (settleRefusal p) (firstNumber rs) ≡ firstNumber (settleRule p ∷ rs)
+  unfolding settleRefusal
+  settle-first p rs = sym (first-joined (settleRule p ∷ []) rs refl)
 
   pub search-published :
-      (p : ℕ) (before : List ℕ) (more : List Bytes) →
-      searchRefusal f p (longEnough (givenSearch f p before more .buffers)) ≡ refusalOf (givenSearch f p before more)
+      (p : ℕ) (before : List ℕ) (others : List Bytes) →
+      searchRefusalIn f p (length before) (longEnough others) ≡ firstNumber (givenSearch f p before others)
   unfolding searchRefusal
-  search-published p before more = sym (rw (both-right (leb p maxSettle)) (file-first _))
+  search-published p before others =
+      let rest = buffersRule (lent before 1026 ∷ others) ∷ [] in
+      ap (first (fileRefusal f)) (settle-first p rest) ∙ file-first (settleRule p ∷ rest)
 
   pub check-published :
-      (p : LoopedPair) (more : List Bytes) → checkRefusal f p (longEnough more) ≡ refusalOf (givenCheck f p more)
+      (p : LoopedPair) (others : List Bytes) → checkRefusal f p (longEnough others) ≡ firstNumber (givenCheck f p others)
   unfolding checkRefusal
-  check-published p more = sym (rw (both-right, both-right) (file-first _))
+  check-published p others =
+      let rest = numberRule (length (p .bytes)) (2 * letters p) ∷ buffersRule others ∷ inputsRule f (p .bytes) ∷ [] in
+      ap (first (fileRefusal f)) (asked-both (ltb (p .s) (statesOf f)) (ltb (p .t) (statesOf f)) 7 rest)
+      ∙ file-first (startRule f (p .s) ∷ startRule f (p .t) ∷ rest)
 
-  -- the file's numbers, 8 and 14, in front of others
-  limits-first :
-      (w : Window) (x : ℕ) →
-      fileFirst
-      (refuse (not (leb (w .before) maxSide && (leb (w .after) maxSide && true))) 8
-      (refuse (not (leb (w .settle) maxSettle && true)) 14 x)) ≡ first (limitsRefusal f w) x
+  first-first : (a b x : ℕ) → first (first a b) x ≡ first a (first b x)
+  first-first zero b x = refl
+  first-first (suc a) b x = refl
+
+  sides-first : (b a : ℕ) (rs : List Rule) → first (sidesRefusal b a) (firstNumber rs) ≡ firstNumber (sidesRule b a ∷ rs)
+  unfolding sidesRefusal
+  sides-first b a rs = sym (first-joined (sidesRule b a ∷ []) rs refl)
+
+  -- the file, 8 and 14, in front of other rules
+  limits-first : (w : Window) (rs : List Rule) → first (limitsRefusal f w) (firstNumber rs) ≡ firstNumber (fileRules f ++ windowRules w rs)
   unfolding limitsRefusal
-  limits-first w x =
-      rw (both-right (leb (w .after) maxSide), both-right (leb (w .settle) maxSettle))
-      (file-first _
+  limits-first w rs =
+      first-first (fileRefusal f) _ _
       ∙ ap (first (fileRefusal f))
-      (first-before
-      (record { number = 8; applies = not (leb (w .before) maxSide && leb (w .after) maxSide) } ∷ record { number = 14; applies = not (leb (w .settle) maxSettle) } ∷ [])
-      x refl)
-      ∙ sym (first-first (fileRefusal f) _ x))
+      (first-first (sidesRefusal (w .before) (w .after)) _ _
+      ∙ ap (first (sidesRefusal (w .before) (w .after))) (settle-first (w .settle) rs)
+      ∙ sides-first (w .before) (w .after) (settleRule (w .settle) ∷ rs))
+      ∙ file-first (windowRules w rs)
 
   pub window-published :
-      (w : Window) (received : List ℕ) (more : List Bytes) →
-      windowRefusal f w received (longEnough more) ≡ refusalOf (givenWindow f w received more)
+      (w : Window) (received : List ℕ) (others : List Bytes) →
+      windowRefusal f w received (longEnough others) ≡ firstNumber (givenWindow f w received others)
   unfolding windowRefusal
-  window-published w received more = sym (rw (both-right (eqb (length received) (size w))) (limits-first w _))
+  window-published w received others =
+      limits-first w (numberRule (length received) (size w) ∷ buffersRule others ∷ receivedRule f received ∷ [])
 
   pub string-published :
-      (w : Window) (received before : List ℕ) (more : List Bytes) →
-      stringRefusal f w received (longEnough (givenString f w received before more .buffers)) ≡
-      refusalOf (givenString f w received before more)
+      (w : Window) (received before : List ℕ) (others : List Bytes) →
+      stringRefusalIn f w received (length before) (longEnough others) ≡ firstNumber (givenString f w received before others)
   unfolding stringRefusal
-  string-published w received before more = sym (limits-first w _)
+  string-published w received before others =
+      limits-first w (buffersRule (lent before (places (length received) w) ∷ others) ∷ receivedRule f received ∷ [])
 
   pub table-published :
-      (w : Window) (before : List ℕ) (more : List Bytes) →
-      tableRefusal f w (longEnough (givenTable f w before more .buffers)) ≡ refusalOf (givenTable f w before more)
+      (w : Window) (before : List ℕ) (others : List Bytes) →
+      tableRefusalIn f w (length before) (longEnough others) ≡ firstNumber (givenTable f w before others)
   unfolding tableRefusal
-  table-published w before more = sym (rw (both-right (leb (tableSize (outputsOf f) w) maxTable)) (limits-first w _))
+  table-published w before others =
+      limits-first w (tableRule f w ∷ buffersRule (lent before (tableSize (outputsOf f) w) ∷ others) ∷ [])
 
 -- ---- the writer, which is given no file
 
 pub write-published :
-    (n i o : ℕ) (entries before : List ℕ) (more : List Bytes) →
-    writeRefusal n i o entries (longEnough (givenWrite n i o entries before more .buffers)) ≡
-    refusalOf (givenWrite n i o entries before more)
+    (n i o : ℕ) (entries before : List ℕ) (others : List Bytes) →
+    writeRefusalIn n i o entries (length before) (longEnough others) ≡ firstNumber (givenWrite n i o entries before others)
 unfolding writeRefusal
-write-published n i o entries before more = sym (parts-first n i o entries _)
+write-published n i o entries before others =
+    let rest = buffersRule (lent before (length (fileOf n i o entries)) ∷ others) ∷ [] in
+    ap (λ k. first k (firstNumber rest)) (parts-published n i o entries) ∙ sym (first-joined (partsRules n i o entries) rest refl)
+
+-- ---- the order
+
+pub calls-in-order : CallsInOrder
+unfolding follows
+calls-in-order =
+    record {
+      file = λ f. refl;
+      run = λ f s xs before others. refl;
+      search = λ f p before others. refl;
+      check = λ f p others. refl;
+      window = λ f w received others. refl;
+      string = λ f w received before others. refl;
+      table = λ f w before others. refl;
+      write = λ n i o entries before others. refl;
+    }

@@ -24,8 +24,9 @@ use Rattle.values.specs.declared.CountResult.the-variants.{Done}
 use Rattle.search.specs.declared.Verdict.the-variants.{Least}
 use Rattle.search.proofs.Files.{search-accepted}
 use Rattle.search.proofs.Determined.{found}
-use Rattle.decoder.specs.Refusal.{limitsRefusal, stringRefusal}
+use Rattle.decoder.specs.Refusal.{stringRefusal}
 use Rattle.decoder.specs.Places.{places, stringRefusalIn, StringPromise}
+use Rattle.decoder.proofs.Accepting.{limits-pass}
 use Rattle.decoder.proofs.ComeBack.{string-comes-back}
 use Rattle.theorems.specs.RoundTrip.{Coded, LettersComeBack}
 
@@ -49,14 +50,9 @@ module _ (f : List ℕ) (s : ℕ) (xs : List ℕ) (coded : Coded f s xs) where
   start-low : s < statesOf f
   start-low = rw (states-are f) at (file-bounded f (accepted f (coded .file)) s (coded .start))
 
-  pub not-refused : (before : List ℕ) → length xs ≤ length before → runRefusalIn f s xs before ≡ 0
+  pub not-refused : (before : List ℕ) → length xs ≤ length before → runRefusalIn f s xs (length before) true ≡ 0
   unfolding runRefusal
   not-refused before l = rw (coded .file, lt-ltb s (statesOf f) start-low, le-leb (length xs) (length before) l, letters-test (inputsOf f) xs (coded .letters))
-
-  limits-ok : (w : Window) → w .before ≤ maxSide → w .after ≤ maxSide → w .settle ≤ maxSettle → limitsRefusal f w ≡ 0
-  unfolding limitsRefusal
-  limits-ok w l m n =
-      rw (coded .file, le-leb (w .before) maxSide l, le-leb (w .after) maxSide m, le-leb (w .settle) maxSettle n)
 
   string-ok :
       (w : Window) (received before : List ℕ) → w .before ≤ maxSide → w .after ≤ maxSide → w .settle ≤ maxSettle →
@@ -64,7 +60,7 @@ module _ (f : List ℕ) (s : ℕ) (xs : List ℕ) (coded : Coded f s xs) where
       stringRefusalIn f w received (length before) true ≡ 0
   unfolding stringRefusal
   string-ok w received before l m k n h =
-      rw (limits-ok w l m k, le-leb (places (length received) w) (length before) n, letters-test (outputsOf f) received h)
+      rw (limits-pass f w (coded .file) l m k, le-leb (places (length received) w) (length before) n, letters-test (outputsOf f) received h)
 
   -- the letters that a run wrote
   wrote :
@@ -93,6 +89,6 @@ round-trip f s xs coded before₁ r₁ after₁ l h o p before₂ w after₂ q b
       counted = (rw z at (d′ .result)) ∙ ap (λ n. Done (places n w)) long;
       back =
           λ k ahead n.
-          string-comes-back f w s xs before₃ r₃ after₃ (rw (report .settle) (report .least .works)) (coded .start) (coded .letters) z d′ k n
-          ahead;
+          string-comes-back f w s xs before₃ r₃ after₃ (rw (report .settle) (report .least .works)) (coded .start) (coded .letters) z d′ k
+          (omega arith) ahead;
     }

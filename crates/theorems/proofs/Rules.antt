@@ -7,7 +7,7 @@ use lib.Dec.{eqb}
 use borrow.Author.Tests.{eqb-false, not-true}
 use Rattle.coder.specs.Refusal.{refuse, first}
 use Rattle.coder.proofs.Refusals.{both-true, refuse-either}
-use Rattle.theorems.specs.Published.{Rule, firstNumber}
+use Rattle.theorems.specs.Published.{Rule, asks, firstNumber}
 
 -- no number of a list is this one
 abbrev pub without : ℕ → List Rule → Bool
@@ -20,6 +20,12 @@ number-other k [] t z = λ e. z (sym e)
 number-other k (r ∷ rs) t z =
     let b = both-true (not (eqb (r .number) k)) (without k rs) t in
     refuse-either (λ n. n ≡ k → ⊥) (r .applies) (r .number) (firstNumber rs) (eqb-false _ _ (not-true _ (b .0))) (number-other k rs (b .1) z)
+
+pub without-joined : (k : ℕ) (rs ss : List Rule) → without k rs ≡ true → without k ss ≡ true → without k (rs ++ ss) ≡ true
+without-joined k [] ss t u = u
+without-joined k (r ∷ rs) ss t u =
+    let b = both-true (not (eqb (r .number) k)) (without k rs) t in
+    rw (b .0) (without-joined k rs ss (b .1) u)
 
 -- of two lists, the first number of the one and, where that gives none, of the other
 pub first-joined : (rs ss : List Rule) → without 0 rs ≡ true → firstNumber (rs ++ ss) ≡ first (firstNumber rs) (firstNumber ss)
@@ -35,6 +41,8 @@ first-joined (r ∷ rs) ss t =
     go true (suc k) z e = refl
     go false k z e = e
 
--- a list in front of a number
-pub first-before : (rs : List Rule) (x : ℕ) → without 0 rs ≡ true → firstNumber (rs ++ (record { number = x; applies = true } ∷ [])) ≡ first (firstNumber rs) x
-first-before rs x t = first-joined rs (record { number = x; applies = true } ∷ []) t
+-- one number that asks two things, and one for each
+pub asked-both :
+    (a b : Bool) (k : ℕ) (rs : List Rule) → refuse (not (a && b)) k (firstNumber rs) ≡ firstNumber (asks k a ∷ asks k b ∷ rs)
+asked-both true b k rs = refl
+asked-both false b k rs = refl

@@ -4,11 +4,9 @@ use mathlib.Core.Logic.{_↔_}
 use mathlib.Core.List.{List}
 use Prim.Native.Nat.{ℕ, _≤_}
 use native.Mathlib.Omega.{arith}
-use borrow.Author.Tests.{le-leb}
 use Rattle.mealy.specs.Setting.{Same}
 use Rattle.mealy.proofs.Unseen.{works↔same-letter, fits↔fits-after}
 use Rattle.mealy.proofs.SettleCounts.{least-later, same-unchanged}
-use Rattle.coder.specs.Limits.{maxSettle}
 use Rattle.coder.specs.File.{fileRefusal, machineOf, settingAfter}
 use Rattle.coder.proofs.Accepted.{accepted}
 use Rattle.coder.proofs.Tables.{total, some-state}
@@ -20,22 +18,19 @@ use Rattle.search.specs.Search.{IsNoDecoder, SearchPromise}
 use Rattle.search.specs.declared.Verdict.{Verdict}
 use Rattle.search.specs.declared.Verdict.the-variants.{Least, NoDecoder}
 use Rattle.search.specs.declared.SearchResult.the-variants.{Found}
-use Rattle.search.proofs.Files.{search-accepted}
 use Rattle.search.proofs.Determined.{found, no-decoder-any, pair-any}
-use Rattle.layout.specs.Layout.{withFields, verdictFields, fieldAt}
-use Rattle.lowhenita.specs.Host.{SearchHosted}
-use Rattle.lowhenita.proofs.Handing.{accepted-search}
+use Rattle.layout.specs.Layout.{withFields, fieldAt}
+use Rattle.window_limits.proofs.Limits.{settle-pass}
+use Rattle.search.specs.Laid.{verdictFields, SearchFromHost}
 use Rattle.theorems.specs.Demands.{NoLater}
-use Rattle.theorems.specs.Handed.{FoundFromC}
 use Rattle.theorems.specs.RoundTrip.{windowRead}
-use Rattle.theorems.proofs.Handing.{search-found}
-use Rattle.theorems.proofs.HostRoundTrip.{kind, kind-read, window-found}
+use Rattle.theorems.proofs.HostReads.{search-found, kind, read-kind, read-file, window-found}
 use Rattle.theorems.specs.SettleCounts.{SameWith, SettleCounts}
 use Rattle.theorems.proofs.Demands.{no-later-said}
-use Rattle.theorems.proofs.Alike.{Alike, search-alike, search-alike-from-C, answers-alike, answers-alike-from-C}
+use Rattle.theorems.proofs.Alike.{Alike, search-alike, search-alike-from-C, answers-alike, answers-from-C}
 
-module _ (f : List ℕ) (p p′ : ℕ) (ok : fileRefusal f ≡ 0) (l : 15 ≤ p) (m : p ≤ maxSettle) (l′ : 15 ≤ p′)
-    (m′ : p′ ≤ maxSettle) where
+module _ (f : List ℕ) (p p′ : ℕ) (ok : fileRefusal f ≡ 0) (l : 15 ≤ p) (m : p ≤ 64) (l′ : 15 ≤ p′)
+    (m′ : p′ ≤ 64) where
   windows-unchanged : Same (settingAfter f p) (settingAfter f p′)
   unfolding machineOf
   windows-unchanged =
@@ -47,7 +42,7 @@ module _ (f : List ℕ) (p p′ : ℕ) (ok : fileRefusal f ≡ 0) (l : 15 ≤ p)
   alike =
       record {
         file = refl;
-        small = le-leb p maxSettle m ∙ sym (le-leb p′ maxSettle m′);
+        small = settle-pass p m ∙ sym (settle-pass p′ m′);
         outputs = refl;
         fewer = omega arith;
         windows = windows-unchanged;
@@ -60,7 +55,7 @@ module _ (f : List ℕ) (p p′ : ℕ) (ok : fileRefusal f ≡ 0) (l : 15 ≤ p)
         search = search-alike alike;
         search-from-C = search-alike-from-C alike;
         answers = answers-alike alike;
-        answers-from-C = answers-alike-from-C alike;
+        answers-from-C = answers-from-C (answers-alike alike);
       }
 
 -- of two settle counts, the larger gives no later window
@@ -81,35 +76,25 @@ same-kind (Least w) (NoDecoder q′) e = absurd (e .1 tt)
 same-kind (NoDecoder q) (Least w′) e = absurd (e .0 tt)
 same-kind (NoDecoder q) (NoDecoder q′) e = refl
 
-module _ (f : List ℕ) (p : ℕ) {before result after given : List ℕ} (h : SearchHosted f p before result 0 after given) where
-  read : FoundFromC f p before result after given
-  read = search-found f p before result after given h
-
-  read-kind : fieldAt given 0 ≡ kind (read .verdict)
-  read-kind = ap (λ (r : List ℕ). fieldAt r 0) (read .fields) ∙ kind-read result (read .verdict)
-
-  file-ok : fileRefusal f ≡ 0
-  file-ok = search-accepted f p _ (accepted-search f p before result (sym (h .number)) .asked) .file
-
 existence-read :
     (f : List ℕ) (p p′ : ℕ) (before result after given before′ result′ after′ given′ : List ℕ) →
-    SearchHosted f p before result 0 after given → SearchHosted f p′ before′ result′ 0 after′ given′ → fieldAt given 0 ≡ fieldAt given′ 0
+    SearchFromHost f p before result 0 after given → SearchFromHost f p′ before′ result′ 0 after′ given′ → fieldAt given 0 ≡ fieldAt given′ 0
 existence-read f p p′ before result after given before′ result′ after′ given′ h h′ =
-    let x = read f p h in
-    let y = read f p′ h′ in
-    read-kind f p h
+    let x = search-found f p before result after given h in
+    let y = search-found f p′ before′ result′ after′ given′ h′ in
+    read-kind x
     ∙ same-kind (x .verdict) (y .verdict)
     (no-decoder-any defaultOrder defaultOrder f p p′ before before′ (x .verdict) (y .verdict) after after′ (x .promised) (y .promised))
-    ∙ sym (read-kind f p′ h′)
+    ∙ sym (read-kind y)
 
 pair-read :
-    (f : List ℕ) (p p′ : ℕ) (before result after given after′ given′ : List ℕ) → SearchHosted f p before result 0 after given →
-    SearchHosted f p′ before result 0 after′ given′ → fieldAt given 0 ≡ 1 → (after ≡ after′) × (given ≡ given′)
+    (f : List ℕ) (p p′ : ℕ) (before result after given after′ given′ : List ℕ) → SearchFromHost f p before result 0 after given →
+    SearchFromHost f p′ before result 0 after′ given′ → fieldAt given 0 ≡ 1 → (after ≡ after′) × (given ≡ given′)
 pair-read f p p′ before result after given after′ given′ h h′ e =
-    let x = read f p h in
-    let y = read f p′ h′ in
-    go (x .verdict) (y .verdict) (sym (read-kind f p h) ∙ e)
-    (sym (read-kind f p′ h′) ∙ sym (existence-read f p p′ before result after given before result after′ given′ h h′) ∙ e) (x .promised)
+    let x = search-found f p before result after given h in
+    let y = search-found f p′ before result after′ given′ h′ in
+    go (x .verdict) (y .verdict) (sym (read-kind x) ∙ e)
+    (sym (read-kind y) ∙ sym (existence-read f p p′ before result after given before result after′ given′ h h′) ∙ e) (x .promised)
     (y .promised) (x .fields) (y .fields)
   where
     go :
@@ -135,7 +120,7 @@ settle-counts =
       larger-no-later-from-C = λ f p p′ before result after given before′ result′ after′ given′ l h h′ e.
           let e′ = sym (existence-read f p p′ before result after given before′ result′ after′ given′ h h′) ∙ e in
           larger defaultOrder f p p′ before before′ (windowRead given p) (windowRead given′ p′) after after′ l
-          (window-found f (file-ok f p h) p before result after given h e)
-          (window-found f (file-ok f p′ h′) p′ before′ result′ after′ given′ h′ e′);
+          (window-found f (read-file (search-found f p before result after given h)) p before result after given h e)
+          (window-found f (read-file (search-found f p′ before′ result′ after′ given′ h′)) p′ before′ result′ after′ given′ h′ e′);
       pair-from-C = pair-read;
     }

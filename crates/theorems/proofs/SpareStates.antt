@@ -1,11 +1,11 @@
 -- Spare states do not count: two files which differ in them alone are judged alike, run alike and have the same valid pairs.
 use mathlib.Core.Path.{_≡_, refl, sym, ap, _∙_}
-use mathlib.Core.Bool.{Bool, true}
+use mathlib.Core.Bool.{Bool, true, _&&_}
 use mathlib.Core.List.{List, [], _∷_, _++_}
 use Prim.Native.Nat.{ℕ, zero, suc, _≤_, _<_}
 use native.Mathlib.Omega.{arith}
 use lib.ListN.{length, drop}
-use lib.Dec.{leb}
+use lib.Dec.{lit<, leb}
 use borrow.Author.Tests.{lt-ltb}
 use Rattle.mealy.specs.Machine.{outs, end, Letters}
 use Rattle.mealy.specs.Setting.{Same}
@@ -20,25 +20,27 @@ use Rattle.coder.proofs.Judging.{judges-not, judges-map}
 use Rattle.coder.proofs.Refusals.{answer-same, upon-map}
 use Rattle.coder.proofs.Tables.{total, some-state, file-bounded}
 use Rattle.running.specs.Run.{runRefusal}
+use Rattle.running.specs.Laid.{laidRun}
 use Rattle.running.specs.declared.RunResult.the-variants as run
 use Rattle.running.proofs.Running.{run-accepted}
 use Rattle.values.specs.Window.{window}
 use Rattle.values.specs.Order.{relationOf}
 use Rattle.values.specs.declared.Order.{Order}
-use Rattle.search.specs.Search.{searchRefusal, wanted, SaysOf, FoundVerdict, RefusedSearch, SearchPromise}
+use Rattle.search.specs.Search.{searchRefusalIn, SaysOf, FoundVerdict, RefusedSearch, SearchWith}
 use Rattle.search.specs.declared.Verdict.{Verdict}
 use Rattle.search.specs.declared.Verdict.the-variants.{Least, NoDecoder}
 use Rattle.search.specs.declared.SearchResult.{SearchResult}
 use Rattle.search.specs.declared.SearchResult.the-variants.{Found}
-use Rattle.checker.specs.Check.{checkRefusal, CheckedRight}
+use Rattle.checker.specs.Check.{checkRefusal, CheckedRight, CheckWith}
+use Rattle.checker.specs.Laid.{laidCheck}
 use Rattle.checker.proofs.Determined as checker
 use Rattle.checker.specs.declared.CheckResult.the-variants as check
-use Rattle.layout.specs.Layout.{withFields}
-use Rattle.lowhenita.proofs.Determined as host
+use Rattle.layout.proofs.Hosting.{from-host, same-host, same-host-buffer}
 use Rattle.theorems.specs.SpareStates.{FileWithSpare, SameOutcomes, SameOutcomesFromC, SpareStates}
 use Rattle.theorems.specs.SettleCounts.{verdictWith, resultWith}
 use Rattle.theorems.proofs.RoundTrip.{states-are}
-use Rattle.theorems.proofs.Alike.{Alike, hosted-map, search-alike, search-alike-from-C, answers-alike, answers-alike-from-C}
+use Rattle.theorems.proofs.Alike.{Alike, search-alike, search-alike-from-C, answers-alike, answers-from-C}
+use Rattle.theorems.proofs.HostReads.{first-read}
 
 -- ---- from the one file to the other
 
@@ -109,9 +111,9 @@ module _ {f f′ : List ℕ} (h : FileWithSpare f f′) where
 
 -- a result that a search promises has the settle count that the search was made with
 own-settle :
-    (o : Order) (f : List ℕ) (p : ℕ) (before : List ℕ) (r : SearchResult) (after : List ℕ) → SearchPromise o f p before r after →
-    r ≡ resultWith p r
-own-settle o f p before r after = go (searchRefusal f p (leb wanted (length before)))
+    (o : Order) (f : List ℕ) (p : ℕ) (before : List ℕ) (others : Bool) (r : SearchResult) (after : List ℕ) →
+    SearchWith o f p before others r after → r ≡ resultWith p r
+own-settle o f p before others r after = go (searchRefusalIn f p (length before) others)
   where
     settle : (v : Verdict) → SaysOf o f p v before after → v ≡ verdictWith p v
     settle (Least w) s = ap (λ (n : ℕ). Least (window (w .before) (w .after) n)) (s .settle)
@@ -125,8 +127,8 @@ module _ {f f′ : List ℕ} (h : FileWithSpare f f′) where
   same-outcomes : SameOutcomes f f′
   same-outcomes =
       record {
-        run = λ s xs before r r′ after after′ reach x y.
-            let fits = leb (length xs) (length before) in
+        run = λ s xs before others r r′ after after′ reach x y.
+            let fits = (leb (length xs) (length before) && others) in
             let e = run-number h s xs fits reach in (
               x .result
                   ∙ answer-same (λ k. run.Refused k) _ _ e (λ z. ap (run.Done (length xs)) (run-end h s xs reach fits z))
@@ -135,13 +137,13 @@ module _ {f f′ : List ℕ} (h : FileWithSpare f f′) where
                   ∙ answer-same (λ k. before) _ _ e (λ z. ap (λ os. os ++ drop (length xs) before) (run-outs h s xs reach fits z))
                   ∙ sym (y .bytes),
             );
-        search = λ o p before r r′ after after′ x y.
-            let e = search-alike (alike h p) o before r r′ after after′ x y in
-            (own-settle o f p before r after x ∙ e .0, e .1);
+        search = λ o p before others r r′ after after′ x y.
+            let e = search-alike (alike h p) o before others r r′ after after′ x y in
+            (own-settle o f p before others r after x ∙ e .0, e .1);
         answers = λ p. answers-alike (alike h p);
-        check = λ q r r′ l a b.
-            checker.check-determined f′ q r r′
-            (upon-map (λ k. r ≡ check.Refused k) (CheckedRight f q r) (CheckedRight f′ q r) (check-number h q true l)
+        check = λ q others r r′ l a b.
+            checker.check-determined f′ q others r r′
+            (upon-map (λ k. r ≡ check.Refused k) (CheckedRight f q r) (CheckedRight f′ q r) (check-number h q others l)
             (λ z g.
             let j = judged-same h (record { yes′ = g .yes′; no′ = g .no′ }) in
             record { answer = g .answer; is = g .is; yes′ = j .yes′; no′ = j .no′ })
@@ -152,23 +154,13 @@ module _ {f f′ : List ℕ} (h : FileWithSpare f f′) where
   same-from-C : SameOutcomesFromC f f′
   same-from-C =
       record {
-        run = λ s xs before result r r′ after after′ given given′ reach x y.
-            host.run-determined f′ s xs before result r r′ after after′ given given′
-            (hosted-map (run-number h s xs _ reach)
-            (λ z g.
-            record {
-              bytes = g .bytes ∙ ap (λ os. os ++ drop (length xs) before) (run-outs h s xs reach _ z);
-              fields = g .fields ∙ ap (λ (n : ℕ). withFields result (length xs ∷ n ∷ [])) (run-end h s xs reach _ z);
-            })
-            x)
-            y;
+        run = λ s xs before result r r′ after after′ given given′ reach.
+            same-host-buffer
+            (λ own own′ x y.
+            let e = same-outcomes .run s xs before _ own own′ after after′ reach x y in (ap laidRun (e .0), e .1));
         search = λ p. search-alike-from-C (alike h p);
-        answers = λ p. answers-alike-from-C (alike h p);
-        check = λ q result r r′ given given′ l a b.
-            host.check-determined f′ q result given given′ r r′
-            (hosted-map (check-number h q _ l)
-            (λ z g. record { judgement = g .judgement; judges = judged-same h (g .judges); fields = g .fields }) a)
-            b;
+        answers = λ p. answers-from-C (answers-alike (alike h p));
+        check = λ q result r r′ given given′ l. same-host (λ own own′ x y. ap laidCheck (same-outcomes .check q _ own own′ l x y));
       }
 
 -- ---- all of them
@@ -179,6 +171,11 @@ spare-states =
       checked = λ f q r u e c not-reachable.
           let g : CheckedRight f q r = rw e at c in
           checker.checked-as f q g (judges-not (λ v. not-reachable (v .start u)));
+      checked-from-C = λ f q result r result′ u e long c not-reachable.
+          let g = from-host (CheckWith f q) laidCheck long c in
+          let y : CheckedRight f q (g .own) = rw e at (g .promised) in
+          let no = checker.checked-as f q y (judges-not (λ v. not-reachable (v .start u))) in
+          first-read result (laidCheck (g .own)) 0 [] (ap laidCheck no) (lit< tt) (g .out);
       with-spare = λ f f′ h. same-outcomes h;
       with-spare-from-C = λ f f′ h. same-from-C h;
       none-spare = λ f z all.

@@ -4,8 +4,8 @@ use mathlib.Core.Bool.{Bool, true, false, not, _&&_}
 use mathlib.Core.List.{List, [], _∷_, _++_}
 use Prim.Native.Nat.{ℕ, _*_, _≤_, _<_}
 use native.Mathlib.Omega.{arith}
-use lib.ListN.{length, getD, take, drop, take-append-drop}
-use lib.Seq.{take-all}
+use lib.ListN.{length, getD, take, drop, take-append-drop, length-drop}
+use lib.Seq.{take-all, length-take-le}
 use lib.Dec.{leb, eqb}
 use borrow.Author.Tests.{eqb-true, leb-true, le-leb, not-true}
 use lib.Count.{leadingZeros}
@@ -45,16 +45,18 @@ use Rattle.values.proofs.Orders.{is-order}
 use Rattle.values.specs.declared.Window.{Window}
 use Rattle.values.specs.declared.LoopedPair as values
 use Rattle.values.specs.declared.CountResult.the-variants.{Done}
-use Rattle.fitting.specs.Answer.{meaning, answerOf}
+use Rattle.fitting.specs.Answer.{meaning, answerOf, RightByte}
 use Rattle.fitting.specs.declared.Answer.{Answer}
 use Rattle.fitting.specs.declared.Answer.the-variants.{Letter, None, Several}
 use Rattle.fitting.proofs.Answers.{right-unique, right-byte, right-byte-unique}
 use Rattle.filling.specs.Sets.{contribution, gather, add, added}
 use Rattle.filling.specs.Window.{pass, unionOf, decoded}
 use Rattle.decoder.specs.Written.{Written}
-use Rattle.decoder.specs.Refusal.{limitsRefusal, windowRefusal, tableSize, tableRefusal}
+use Rattle.decoder.specs.Refusal.{limitsRefusal, windowRefusal, stringRefusal, tableSize, tableRefusal}
+use Rattle.decoder.specs.Places.{places, stringRefusalIn}
+use Rattle.window_limits.specs.Refusal.{sidesRefusal, settleRefusal}
 use Rattle.decoder.specs.Window.{AnsweredRight}
-use Rattle.decoder.specs.Table.{EntryOf, tableRefusalIn}
+use Rattle.decoder.specs.Table.{tableRefusalIn}
 use Rattle.decoder.specs.declared.WindowResult.the-variants.{Answered}
 use Rattle.decoder.proofs.Accepting.{window-accepted}
 use Rattle.decoder.proofs.Writing.{written-bytes, written-unique}
@@ -62,7 +64,8 @@ use Rattle.decoder.proofs.Decoding.{startsOf, file-starts, file-right}
 use Rattle.starts.proofs.Computed.{entriesWord, imageWord, inStepsWord, startsWord}
 use Rattle.placing.specs.Placed.{withFront}
 use Rattle.writer.proofs.Writing.{write-given}
-use Rattle.search.specs.Search.{searchRefusal, wanted, SaysOf, FoundVerdict, SearchPromise}
+use Rattle.search.specs.Search.{searchRefusalIn, wanted, SaysOf, FoundVerdict, SearchPromise}
+use Rattle.search.proofs.Files.{search-pass}
 use Rattle.search.specs.declared.Verdict.{Verdict}
 use Rattle.search.specs.declared.Verdict.the-variants.{Least, NoDecoder}
 use Rattle.search.specs.declared.SearchResult.{SearchResult}
@@ -97,9 +100,13 @@ same-answer None Several e = absurd (true-false e refl)
 same-answer Several (Letter y) e = absurd (true-false e refl)
 same-answer Several None e = absurd (true-false e refl)
 
+-- the byte for the letters of a window
+abbrev partByte : List ℕ → ℕ → ℕ → List ℕ → ℕ
+partByte f p b part = byteOf (meaning (decoded (coderOf f) (startsOf f p) part b))
+
 -- the byte of the window with index k
 abbrev entryByte : List ℕ → ℕ → ℕ → ℕ → ℕ → ℕ
-entryByte f p n b k = byteOf (meaning (decoded (coderOf f) (startsOf f p) (windowAt (outputsOf f) n k) b))
+entryByte f p n b k = partByte f p b (windowAt (outputsOf f) n k)
 
 unfoldable test : List ℕ → Claim → Bool
 test f (claimed.counts n i o) = eqb (statesOf f) n && (eqb (inputsOf f) i && eqb (outputsOf f) o)
@@ -111,6 +118,9 @@ test f (claimed.not-valid s t bytes) =
 test f claimed.different-outputs = differentTest (machineOf f)
 test f (claimed.answer b a p w v) =
     eqb (windowRefusal f (window b a p) w true) 0 && sameAnswer (decoded (coderOf f) (startsOf f p) w b) v
+test f (claimed.string b a p received bytes) =
+    let w = window b a p in
+    (eqb (stringRefusal f w received true) 0 && (eqb (length bytes) (places (length received) w) && allBelow (length bytes) (λ k. eqb (getD bytes k 0) (partByte f p b (take (size w) (drop k received))))))
 test f (claimed.table b a p bytes) =
     (eqb (tableRefusal f (window b a p) true) 0 && (eqb (length bytes) (tableSize (outputsOf f) (window b a p)) && allBelow (length bytes) (λ k. eqb (getD bytes k 0) (entryByte f p (size (window b a p)) b k))))
 test f (claimed.run s xs os e) =
@@ -123,10 +133,8 @@ module _ (f : List ℕ) (z : fileRefusal f ≡ 0) where
   searched :
       (o : Order) (p : ℕ) (before : List ℕ) (r : SearchResult) (after : List ℕ) → p ≤ maxSettle → wanted ≤ length before →
       SearchPromise o f p before r after → FoundVerdict o f p r before after
-  unfolding searchRefusal
   searched o p before r after m l h =
-      let e : searchRefusal f p (leb wanted (length before)) ≡ 0 =
-      rw (z, le-leb p maxSettle m, le-leb wanted (length before) l) in
+      let e : searchRefusalIn f p (length before) true ≡ 0 = rw (le-leb wanted (length before) l) (search-pass f p z m) in
       rw e at h
 
   window-holds :
@@ -196,6 +204,38 @@ module _ (f : List ℕ) (z : fileRefusal f ≡ 0) where
       let right = file-right f z p received b (omega arith) in
       h .is ∙ ap (λ (x : Answer). Answered x) (right-unique (settingAfter f p) received b (h .answer) _ (h .right) right ∙ q)
 
+  -- bytes that a call is to write, each the byte for a part of at least b + 1 letters
+  bytes-hold :
+      (b p : ℕ) (part : ℕ → List ℕ) (bytes before after : List ℕ) (n : ℕ) → length bytes ≡ n → n ≤ length before →
+      ((k : ℕ) → k < n → b < length (part k)) → ((k : ℕ) → k < length bytes → getD bytes k 0 ≡ partByte f p b (part k)) →
+      Written (λ k v. RightByte (settingAfter f p) (part k) b v) n before after → after ≡ withFront bytes before
+  bytes-hold b p part bytes before after n long room inside each written =
+      rw long
+      (written-unique (λ k x y. right-byte-unique (settingAfter f p) (part k) b) written
+      (written-bytes bytes long room (λ k m.
+      rw (each k (omega arith))
+      (right-byte (settingAfter f p) (part k) b (decoded (coderOf f) (startsOf f p) (part k) b)
+      (file-right f z p (part k) b (inside k m))))))
+
+  string-holds :
+      (b a p : ℕ) (received bytes : List ℕ) → stringRefusal f (window b a p) received true ≡ 0 →
+      length bytes ≡ places (length received) (window b a p) →
+      ((k : ℕ) → k < length bytes → getD bytes k 0 ≡ partByte f p b (take (size (window b a p)) (drop k received))) →
+      Holds f (claimed.string b a p received bytes)
+  string-holds b a p received bytes e long each before r after l g =
+      let w = window b a p in
+      let n = places (length received) w in
+      let room : n ≤ length before = omega arith in
+      let none : stringRefusalIn f w received (length before) true ≡ 0 = rw (le-leb n (length before) room) e in (
+        (rw none at (g .result)) ∙ ap (λ (m : ℕ). Done m) (sym long),
+        bytes-hold b p (λ k. take (size w) (drop k received)) bytes before after n long room
+            (λ k m.
+            let full : length (take (size w) (drop k received)) ≡ size w =
+            length-take-le (size w) (drop k received) (simp length-drop (omega arith)) in
+            omega arith)
+            each (rw none at (g .bytes)),
+      )
+
   table-holds :
       (b a p : ℕ) (bytes : List ℕ) → tableRefusal f (window b a p) true ≡ 0 → length bytes ≡ tableSize (outputsOf f) (window b a p) →
       ((k : ℕ) → k < length bytes → getD bytes k 0 ≡ entryByte f p (size (window b a p)) b k) → Holds f (claimed.table b a p bytes)
@@ -203,23 +243,17 @@ module _ (f : List ℕ) (z : fileRefusal f ≡ 0) where
       let w = window b a p in
       let n = tableSize (outputsOf f) w in
       let room : n ≤ length before = omega arith in
-      let none : tableRefusalIn f w (length before) true ≡ 0 = rw (le-leb n (length before) room) e in
-      let written : Written (EntryOf f w) n before after = rw none at (g .bytes) in (
+      let none : tableRefusalIn f w (length before) true ≡ 0 = rw (le-leb n (length before) room) e in (
         (rw none at (g .result)) ∙ ap (λ (m : ℕ). Done m) (sym long),
-        rw long
-            (written-unique (λ k x y. right-byte-unique (settingAfter f p) (windowAt (outputsOf f) (size w) k) b) written
-            (written-bytes bytes long room (λ k m.
-            let part = windowAt (outputsOf f) (size w) k in
-            rw (each k (omega arith))
-            (right-byte (settingAfter f p) part b (decoded (coderOf f) (startsOf f p) part b)
-            (file-right f z p part b (omega (arith, length-window (outputsOf f) (size w) k))))))),
+        bytes-hold b p (windowAt (outputsOf f) (size w)) bytes before after n long room
+            (λ k m. omega (arith, length-window (outputsOf f) (size w) k)) each (rw none at (g .bytes)),
       )
 
   run-holds :
       (s : ℕ) (xs os : List ℕ) (e : ℕ) → runRefusal f s xs true ≡ 0 → outs (machineOf f) s xs ≡ os → end (machineOf f) s xs ≡ e →
       Holds f (claimed.run s xs os e)
   run-holds s xs os e none o n before r after l p =
-      let none′ : runRefusalIn f s xs before ≡ 0 = rw (le-leb (length xs) (length before) l) none in (
+      let none′ : runRefusalIn f s xs (length before) true ≡ 0 = rw (le-leb (length xs) (length before) l) none in (
         (rw none′ at (p .result)) ∙ ap (λ (x : ℕ). run-result.the-variants.Done (length xs) x) n,
         (rw none′ at (p .bytes)) ∙ ap (λ (x : List ℕ). x ++ drop (length xs) before) o,
       )
@@ -262,6 +296,13 @@ module _ (f : List ℕ) (z : fileRefusal f ≡ 0) where
       let d = decoded (coderOf f) (startsOf f p) w b in
       let t = both-true (eqb (windowRefusal f (window b a p) w true) 0) (sameAnswer d v) e in
       answer-holds b a p w v (eqb-true _ _ (t .0)) (same-answer d v (t .1))
+  claim-holds (claimed.string b a p received bytes) e =
+      let w = window b a p in
+      let same : ℕ → Bool = λ k. eqb (getD bytes k 0) (partByte f p b (take (size w) (drop k received))) in
+      let long = eqb (length bytes) (places (length received) w) in
+      let t = both-true (eqb (stringRefusal f w received true) 0) (long && allBelow (length bytes) same) e in
+      let u = both-true long (allBelow (length bytes) same) (t .1) in
+      string-holds b a p received bytes (eqb-true _ _ (t .0)) (eqb-true _ _ (u .0)) (λ k l. eqb-true _ _ (all-at (length bytes) same (u .1) k l))
   claim-holds (claimed.table b a p bytes) e =
       let same : ℕ → Bool = λ k. eqb (getD bytes k 0) (entryByte f p (size (window b a p)) b k) in
       let long = eqb (length bytes) (tableSize (outputsOf f) (window b a p)) in
@@ -298,7 +339,7 @@ cases-hold (c ∷ cs) e =
     (z, claims-hold (c .file) z (c .claims) (u .0), cases-hold cs (u .1))
 
 passed : testCases starred ≡ true
-unfolding test entriesWord imageWord inStepsWord startsWord allStarts bigEndian checkRefusal windowRefusal tableRefusal runRefusal limitsRefusal leastTest laterOrFails worksTest agree allWords noEarlier firstTest validTest closesTest differentTest allBelow someBelow named fileRefusal entriesRefusal inRange within entryInRange machineOf entryOf coderOf table tableAt decoded pass added add contribution gather unionOf answerOf leadingZeros hasKey isEntry over windowAt
+unfolding test entriesWord imageWord inStepsWord startsWord allStarts bigEndian checkRefusal windowRefusal stringRefusal tableRefusal runRefusal limitsRefusal sidesRefusal settleRefusal leastTest laterOrFails worksTest agree allWords noEarlier firstTest validTest closesTest differentTest allBelow someBelow named fileRefusal entriesRefusal inRange within entryInRange machineOf entryOf coderOf table tableAt decoded pass added add contribution gather unionOf answerOf leadingZeros hasKey isEntry over windowAt
 passed = refl
 
 -- every starred case: its file is accepted, and all that is claimed of it holds

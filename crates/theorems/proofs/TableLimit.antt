@@ -1,6 +1,6 @@
 -- The cases on O refuse exactly the tables that are too large, and a call for a table is refused with 10 exactly where they do and no number
 -- before 10 applies.
-use mathlib.Core.Path.{_≡_, refl, sym, _∙_}
+use mathlib.Core.Path.{_≡_, refl, sym, ap, _∙_}
 use mathlib.Core.Bool.{Bool, true, false, not, _&&_}
 use mathlib.Core.Logic.{_↔_}
 use mathlib.Core.List.{List}
@@ -20,6 +20,8 @@ use Rattle.values.specs.declared.CountResult.the-variants.{Refused, Done}
 use Rattle.table_size.specs.Size.{maxTable}
 use Rattle.table_size.specs.Cases.{tableAllowed}
 use Rattle.table_size.proofs.Exact.{cases-exact}
+use Rattle.window_limits.specs.Refusal.{sidesRefusal, settleRefusal}
+use Rattle.layout.specs.Host.{roomy, laidCount}
 use Rattle.decoder.specs.Refusal.{limitsRefusal, tableSize, tableRefusal}
 use Rattle.decoder.specs.Table.{tableRefusalIn}
 use Rattle.decoder.proofs.Accepting.{table-by-cases}
@@ -37,10 +39,11 @@ NotTen k = k ≡ 10 → ⊥
 
 -- no number of the file and of the window's limits is 10
 limits-not-ten : (f : List ℕ) (w : Window) → NotTen (limitsRefusal f w)
-unfolding limitsRefusal
+unfolding limitsRefusal sidesRefusal settleRefusal
 limits-not-ten f w =
     first-either NotTen (fileRefusal f) _ (file-number NotTen (λ k l e. omega arith) (λ e. omega arith) f)
-    (refuse-either NotTen (not (leb (w .before) maxSide && leb (w .after) maxSide)) 8 _ (λ e. omega arith)
+    (first-either NotTen (sidesRefusal (w .before) (w .after)) _
+    (refuse-either NotTen (not (leb (w .before) maxSide && leb (w .after) maxSide)) 8 0 (λ e. omega arith) (λ e. omega arith))
     (refuse-either NotTen (not (leb (w .settle) maxSettle)) 14 0 (λ e. omega arith) (λ e. omega arith)))
 
 module _ (f : List ℕ) (w : Window) (fits : Bool) where
@@ -66,6 +69,11 @@ refused-ten : (k n : ℕ) → (answer k (λ j. Refused j) (Done n) ≡ Refused 1
 refused-ten zero n = ((λ e. let z : _≡_ {A = ℕ} 0 1 = cc in absurd (omega arith)), λ e. absurd (omega arith))
 refused-ten (suc k) n = ((λ e. cc), λ e. rw e)
 
+-- what is returned for a result is the refusal's number
+returned-count : (k n : ℕ) → laidCount (answer k (λ j. Refused j) (Done n)) .returned ≡ k
+returned-count zero n = refl
+returned-count (suc k) n = refl
+
 pub table-limit : TableLimit
 table-limit = record {
   exact = exactly;
@@ -74,5 +82,7 @@ table-limit = record {
       let k = refused-ten (tableRefusalIn f w (length before) true) (tableSize (outputsOf f) w) in
       ((λ e. t .0 (k .0 (sym (p .result) ∙ e))), λ q. p .result ∙ k .1 (t .1 q));
   call-from-C = λ f w before result r after result′ h.
-      let t = ten f w _ in ((λ e. t .0 (sym (h .number) ∙ e)), λ q. h .number ∙ t .1 q);
+      let t = ten f w _ in
+      let n = h .out .number ∙ ap (λ x. laidCount x .returned) (h .promised .result) ∙ returned-count (tableRefusalIn f w (length before) (roomy result)) _ in
+      ((λ e. t .0 (sym n ∙ e)), λ q. n ∙ t .1 q);
 }

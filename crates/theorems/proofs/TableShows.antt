@@ -2,7 +2,7 @@
 use mathlib.Core.Path.{_≡_, refl, sym, ap, subst, _∙_}
 use mathlib.Core.Logic.{_↔_, _≢_}
 use mathlib.Core.Bool.{true}
-use mathlib.Core.List.{List}
+use mathlib.Core.List.{List, []}
 use Prim.Native.Nat.{ℕ, _+_, _<_, _≤_}
 use native.Mathlib.Omega.{arith}
 use lib.ListN.{length, getD}
@@ -23,10 +23,15 @@ use Rattle.values.specs.declared.Window.{Window}
 use Rattle.values.specs.declared.CountResult as count
 use Rattle.decoder.specs.Refusal.{tableSize}
 use Rattle.decoder.specs.Window.{windowSetting}
-use Rattle.decoder.specs.Table.{EntryOf, tableRefusalIn, TablePromise}
+use Rattle.decoder.specs.Table.{EntryOf, tableRefusalIn, TableWith, TablePromise}
+use Rattle.decoder_host.proofs.Hosting.{table-enough}
+use Rattle.layout.specs.Host.{laidCount}
+use Rattle.layout.proofs.Hosting.{not-refused, answered-host}
 use Rattle.decoder.proofs.Accepting.{table-accepted}
 use Rattle.theorems.proofs.Counted.{Counted, counted}
+use Rattle.theorems.specs.TableShows.{Shows, TableShows}
 use Rattle.theorems.proofs.RoundTrip.{outs-letters}
+use Rattle.theorems.proofs.HostReads.{first-read}
 
 -- 255 is the byte of "several" alone, where letters are below 16
 several-byte :
@@ -114,5 +119,22 @@ module _ (f : List ℕ) (w : Window) (before : List ℕ) (n : ℕ) (after : List
       let right : Answers S o b (r .answer) = subst (λ (x : List ℕ). Answers S x b (r .answer)) part (r .right) in
       never k l (r .byte ∙ ap byteOf (answer-unique S o b (r .answer) several right two))
 
-  pub table-shows : Works (windowSetting f w) (w .before) (w .after) ↔ ((k : ℕ) → k < n → getD after k 0 ≢ 255)
-  table-shows = (none-several, shows-works)
+  shows : Shows f w n after
+  shows = (none-several, shows-works)
+
+pub table-shows : TableShows
+table-shows =
+    record {
+      own = shows;
+      from-C = λ f w before result after result′ h.
+          let g =
+          answered-host (λ others own. TableWith f w before others own after) laidCount
+          (λ others own. table-enough f w before after others own) refl h in
+          let k = tableRefusalIn f w (length before) true in
+          let z = not-refused laidCount k (λ j. count.the-variants.Refused j) _ (λ j. refl) (g .promised .result) (sym (g .out .number)) in
+          let n = tableSize (outputsOf f) w in
+          let done : g .own ≡ count.the-variants.Done n = rw z at (g .promised .result) in
+          let small = table-accepted f w _ z .small in
+          let read = first-read result (laidCount (g .own)) n [] (ap laidCount done) (omega (arith, small)) (g .out) .1 in
+          rw read (shows f w before n after (rw done at (g .promised)));
+    }

@@ -1,40 +1,44 @@
--- Unused output letters (document 02, 7/13), once for all calls: a call is refused with 15 exactly where no number from 1 to 6 applies and
--- the entries of its coder do not name the whole alphabet, whatever else it is given; so a call that is not refused has a coder that does.
--- Over the published list; that each call is refused as the list says stands in Demands.antt.
+-- Unused output letters (document 02, 7/13), of each coder that a call is given: its rules give 15 exactly where no number from 1 to 6
+-- applies and its entries do not name the whole alphabet; a call whose rules begin with them is refused with 15 then, whatever else it is
+-- given, and where it is not refused its coder names all letters. Over the published list; that each call is refused as the list says stands
+-- in Demands.antt.
 use Prim.Native.Nat.{ℕ, _*_, _≤_}
 use mathlib.Core.Path.{_≡_}
 use mathlib.Core.Logic.{_↔_}
 use mathlib.Core.List.{List, [], _∷_, _++_}
-use Rattle.mealy.specs.Machine.{Machine}
 use Rattle.coder.specs.Alphabet.{NamesAlphabet}
 use Rattle.coder.specs.Accepted.{IsCoder}
-use Rattle.coder.specs.File.{machineOf, machineOfEntries}
-use Rattle.theorems.specs.Published.{Source, file, parts, statesGiven, inputsGiven, outputsGiven, Given, coderRules, alphabetRule, firstNumber, refusalOf, givenFile}
+use Rattle.coder.specs.File.{statesOf, inputsOf, outputsOf, machineOf, machineOfEntries}
+use Rattle.theorems.specs.Published.{Rule, firstNumber, layoutRules, fileRules, partsLayoutRules, partsRules}
 
-abbrev pub machineGiven : Source → Machine
-machineGiven (file f) = machineOf f
-machineGiven (parts n i o entries) = machineOfEntries n i entries
+-- The entries of a file, or of counts and entry bytes, name its whole alphabet.
+abbrev pub FileNamed : List ℕ → Type 0
+FileNamed f = NamesAlphabet (machineOf f) (outputsOf f)
 
--- The entries of the coder that is given name its whole alphabet.
-abbrev pub AlphabetNamed : Source → Type 0
-AlphabetNamed c = NamesAlphabet (machineGiven c) (outputsGiven c)
+abbrev pub PartsNamed : ℕ → ℕ → ℕ → List ℕ → Type 0
+PartsNamed n i o entries = NamesAlphabet (machineOfEntries n i entries) o
+
+-- A coder's rules, of which `layout` are those before 15.
+pub record FifteenLast (layout rules : List Rule) (Named : Type 0) : Type 0 where
+  -- they give 15 exactly where none before applies and the entries leave a letter out
+  pub refused : firstNumber rules ≡ 15 ↔ ((firstNumber layout ≡ 0) × (Named → ⊥))
+  -- and so is a call refused whose rules begin with them
+  pub call-refused : (rest : List Rule) → firstNumber rules ≡ 15 → firstNumber (rules ++ rest) ≡ 15
+  -- a call that is not refused has a coder that leaves none out
+  pub call-accepted : (rest : List Rule) → firstNumber (rules ++ rest) ≡ 0 → Named
 
 -- The file of coder A, running parity, with so many output letters: its entries name the letters 0 and 1.
 abbrev pub parity : ℕ → List ℕ
 parity o = 1 ∷ 0 ∷ 11 ∷ 2 ∷ 2 ∷ o ∷ 0 ∷ 0 ∷ 1 ∷ 1 ∷ 1 ∷ 1 ∷ 0 ∷ 0 ∷ []
 
 pub record WholeAlphabet : Type 0 where
-  pub refused :
-      (g : Given) → refusalOf g ≡ 15 ↔ ((firstNumber (coderRules (g .coder)) ≡ 0) × (AlphabetNamed (g .coder) → ⊥))
-  pub accepted : (g : Given) → refusalOf g ≡ 0 → AlphabetNamed (g .coder)
+  pub file : (f : List ℕ) → FifteenLast (layoutRules f) (fileRules f) (FileNamed f)
+  pub parts : (n i o : ℕ) (entries : List ℕ) → FifteenLast (partsLayoutRules n i o entries) (partsRules n i o entries) (PartsNamed n i o entries)
   -- such a coder has no more output letters than entries
-  pub no-more-letters : (c : Source) → AlphabetNamed c → outputsGiven c ≤ statesGiven c * inputsGiven c
+  pub no-more-letters : (f : List ℕ) → FileNamed f → outputsOf f ≤ statesOf f * inputsOf f
   -- of counts and entries the list lets pass the coders within the limits that name their whole alphabet, and nothing else
-  pub coders :
-      (n i o : ℕ) (entries : List ℕ) →
-      let c = parts n i o entries in
-      firstNumber (coderRules c ++ (alphabetRule c ∷ [])) ≡ 0 ↔ IsCoder n i o entries
+  pub coders : (n i o : ℕ) (entries : List ℕ) → firstNumber (partsRules n i o entries) ≡ 0 ↔ IsCoder n i o entries
   -- coder A as it is, with a letter more, and with more than there may be
-  pub parity-2 : refusalOf (givenFile (parity 2)) ≡ 0
-  pub parity-3 : refusalOf (givenFile (parity 3)) ≡ 15
-  pub parity-65 : refusalOf (givenFile (parity 65)) ≡ 4
+  pub parity-2 : firstNumber (fileRules (parity 2)) ≡ 0
+  pub parity-3 : firstNumber (fileRules (parity 3)) ≡ 15
+  pub parity-65 : firstNumber (fileRules (parity 65)) ≡ 4

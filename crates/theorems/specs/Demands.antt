@@ -1,11 +1,14 @@
 -- The three demands, one record each, over the promises of the calls alone. A buyer begins here: `demand-1`, `demand-2`, `demand-3` and
--- `from-c` of proofs/Demands.antt prove these records, and each call's contract is that it meets its promise for all arguments. That reader
--- and writer of coder files are inverses stands in Files.antt, that refusal 10 goes by cases on O in TableLimit.antt, that spare states do
--- not count in SpareStates.antt, and what a settle count changes in SettleCounts.antt. The runs that pairs go by start in reachable states
--- (document 02, 5/13): `settingOf`. Those of windows and answers start where as many letters as the settle count says lead from there
--- (6/13): `settingAfter`, and of the decoder's calls `windowSetting`.
+-- `from-c` of proofs/Demands.antt prove these records, and each call's contract is that it meets its promise for all arguments. Beside this
+-- file stand: the published list of refusals (Published.antt), that an accepted coder names its whole alphabet (Alphabet.antt), reader and
+-- writer of coder files as inverses (Files.antt), refusal 10 by cases on O (TableLimit.antt), spare states (SpareStates.antt), what a settle
+-- count changes (SettleCounts.antt), that the checker accepts what the search gives (SearchChecked.antt), that a table shows whether its
+-- window works (TableShows.antt), that no promise is empty (Exists.antt), and the starred cases (Starred.antt). The runs that pairs go by
+-- start in reachable states (document 02, 5/13): `settingOf`. Those of windows and answers start where as many letters as the settle count
+-- says lead from there (6/13): `settingAfter`, and of the decoder's calls `windowSetting`.
 use Prim.Native.Nat.{ℕ, _+_, _≤_, _<_}
 use mathlib.Core.Path.{_≡_}
+use mathlib.Core.Bool.{Bool, true}
 use mathlib.Core.Logic.{_↔_}
 use mathlib.Core.List.{List, [], _++_}
 use lib.ListN.{length, getD, take, drop}
@@ -13,7 +16,7 @@ use Rattle.mealy.specs.Machine.{outs, end}
 use Rattle.mealy.specs.Window.{Works}
 use Rattle.mealy.specs.Setting.{Setting}
 use Rattle.mealy.specs.Answer as theory
-use Rattle.mealy.specs.Answer.{NoRun, Alone, Two, Answers, byteOf}
+use Rattle.mealy.specs.Answer.{NoRun, Alone, Two, Answers}
 use Rattle.mealy.specs.Index.{windowAt}
 use Rattle.mealy.specs.LoopedPair as mealy
 use Rattle.mealy.specs.LoopedPair.{Valid, TurnedRuns}
@@ -22,11 +25,10 @@ use Rattle.coder.specs.Refusal.{upon}
 use Rattle.coder.specs.File.{statesOf, inputsOf, outputsOf, entriesOf, fileOf, headerOf, EntriesPart, machineOf, settingOf, settingAfter}
 use Rattle.coder.specs.declared.Header.{Header}
 use Rattle.coder.specs.declared.Header as header-result
-use Rattle.running.specs.Run.{RunPromise}
+use Rattle.running.specs.Run.{RunWith, RunPromise}
 use Rattle.running.specs.declared.RunResult.{RunResult}
 use Rattle.running.specs.declared.RunResult as run-result
 use Rattle.values.specs.Window.{size}
-use Rattle.values.specs.Order.{defaultOrder}
 use Rattle.values.specs.Pair.{pairOf}
 use Rattle.values.specs.declared.Window.{Window}
 use Rattle.values.specs.declared.Order.{Order}
@@ -38,107 +40,81 @@ use Rattle.fitting.specs.Answer.{meaning}
 use Rattle.fitting.specs.declared.Answer.{Answer}
 use Rattle.decoder.specs.Written.{Written}
 use Rattle.decoder.specs.Refusal.{tableSize}
-use Rattle.decoder.specs.Window.{windowSetting, AnsweredRight, WindowPromise}
-use Rattle.decoder.specs.Places.{places, ByteAt, StringPromise}
-use Rattle.decoder.specs.Table.{EntryOf, TablePromise}
+use Rattle.decoder.specs.Window.{windowSetting, AnsweredRight, WindowWith, WindowPromise}
+use Rattle.decoder.specs.Places.{places, ByteAt, StringWith, StringPromise}
+use Rattle.decoder.specs.Table.{EntryOf, TableWith, TablePromise}
 use Rattle.decoder.specs.declared.WindowResult.{WindowResult}
 use Rattle.decoder.specs.declared.WindowResult as window-result
-use Rattle.search.specs.Search.{IsNoDecoder, FoundVerdict, SearchPromise}
+use Rattle.search.specs.Search.{IsNoDecoder, FoundVerdict, SearchWith, SearchPromise}
+use Rattle.search.specs.Laid.{verdictFields, SearchFromHost}
 use Rattle.search.specs.declared.Verdict.{Verdict}
 use Rattle.search.specs.declared.Verdict.the-variants.{Least, NoDecoder}
 use Rattle.search.specs.declared.SearchResult.{SearchResult}
 use Rattle.search.specs.declared.SearchResult as search-result
-use Rattle.checker.specs.Check.{CheckedRight, CheckPromise}
+use Rattle.checker.specs.Check.{CheckedRight, CheckWith}
 use Rattle.checker.specs.declared.CheckResult.{CheckResult}
 use Rattle.checker.specs.declared.CheckResult as check-result
 use Rattle.placing.specs.Placed.{withFront}
-use Rattle.writer.specs.Write.{WritePromise}
-use Rattle.layout.specs.Layout.{resultBytes, withFields, verdictFields}
-use Rattle.lowhenita.specs.Host.{Hosted, BothStay, RunGiven, RunHosted, VerdictGiven, SearchHosted, BytesGiven, DecodeHosted, TableHosted, JudgementGiven, CheckHosted, AnswerGiven, WindowHosted, FileGiven, WriteHosted}
-use Rattle.theorems.specs.Published.{Given, refusalOf, givenFile, givenRun, givenSearch, givenCheck, givenWindow, givenString, givenTable, givenWrite, givenResult}
+use Rattle.writer.specs.Write.{WriteWith}
+use Rattle.layout.specs.Layout.{withFields}
+use Rattle.layout.specs.Host.{Laid, refused, LaidOut, Handed, FromHost}
+use Rattle.theorems.specs.Published.{Rule, firstNumber, Bytes, longEnough, fileRules, givenRun, givenSearch, givenCheck, givenWindow, givenString, givenTable, givenWrite, resultGiven}
 use Rattle.theorems.specs.RoundTrip.{LettersComeBack, LettersComeBackFromC}
-use Rattle.theorems.specs.Handed.{Handed, laidRun, laidSearch, laidCount, laidCheck, laidWindow}
 
 -- ---- demand 1: accepted and answered, or refused by number with nothing changed
 
--- What holds of a call that is given g: Refused k, k being the first number that applies, or Answered where none does.
-abbrev pub Judged : Given → (ℕ → Type 0) → Type 0 → Type 0
-Judged g Refused Answered = upon (refusalOf g) Refused Answered
+-- What holds of a call that is given what these rules are about: Refused k, k being the first number that applies, or Answered where none
+-- does.
+abbrev pub Judged : List Rule → (ℕ → Type 0) → Type 0 → Type 0
+Judged rules Refused Answered = upon (firstNumber rules) Refused Answered
 
--- For each call: a result that it promises is its refusal by that number, with every lent byte as it was, or its stated answer. The
--- call that hands entries back has an empty part for a number, and else the bytes of the file from byte 6 on, where they stand in it.
+-- For each call: a result that it promises is its refusal by that number, with every lent byte as it was, or its stated answer. `others`
+-- are the lent buffers that it has besides its own: none for the library's own call, the result buffer for a call from C (`FromC`). The call
+-- that hands entries back has an empty part for a number, and else the bytes of the file from byte 6 on, where they stand in it.
 pub record Demand1 : Type 0 where
   pub counts :
       (f : List ℕ) (r : Header) → r ≡ headerOf f →
-      Judged (givenFile f) (λ k. r ≡ header-result.the-variants.Refused k)
+      Judged (fileRules f) (λ k. r ≡ header-result.the-variants.Refused k)
       (r ≡ header-result.the-variants.Counts (statesOf f) (inputsOf f) (outputsOf f))
   pub entries :
       (f : List ℕ) (file place : ℕ × ℕ) (part : List ℕ) → EntriesPart f file part place →
-      Judged (givenFile f) (λ k. part ≡ [])
+      Judged (fileRules f) (λ k. part ≡ [])
       ((part ≡ entriesOf f) × (place .0 ≡ file .0) × (place .1 ≡ file .1 + 6))
   pub run :
-      (f : List ℕ) (s : ℕ) (xs before : List ℕ) (r : RunResult) (after : List ℕ) → RunPromise f s xs before r after →
-      Judged (givenRun f s xs before []) (λ k. (r ≡ run-result.the-variants.Refused k) × (after ≡ before))
+      (f : List ℕ) (s : ℕ) (xs before : List ℕ) (others : List Bytes) (r : RunResult) (after : List ℕ) →
+      RunWith f s xs before (longEnough others) r after →
+      Judged (givenRun f s xs before others) (λ k. (r ≡ run-result.the-variants.Refused k) × (after ≡ before))
       ((r ≡ run-result.the-variants.Done (length xs) (end (machineOf f) s xs)) ×
       (after ≡ outs (machineOf f) s xs ++ drop (length xs) before))
   pub window :
-      (f : List ℕ) (w : Window) (received : List ℕ) (r : WindowResult) → WindowPromise f w received r →
-      Judged (givenWindow f w received []) (λ k. r ≡ window-result.the-variants.Refused k) (AnsweredRight f w received r)
+      (f : List ℕ) (w : Window) (received : List ℕ) (others : List Bytes) (r : WindowResult) → WindowWith f w received (longEnough others) r →
+      Judged (givenWindow f w received others) (λ k. r ≡ window-result.the-variants.Refused k) (AnsweredRight f w received r)
   pub string :
-      (f : List ℕ) (w : Window) (received before : List ℕ) (r : CountResult) (after : List ℕ) →
-      StringPromise f w received before r after →
-      Judged (givenString f w received before []) (λ k. (r ≡ count-result.the-variants.Refused k) × (after ≡ before))
+      (f : List ℕ) (w : Window) (received before : List ℕ) (others : List Bytes) (r : CountResult) (after : List ℕ) →
+      StringWith f w received before (longEnough others) r after →
+      Judged (givenString f w received before others) (λ k. (r ≡ count-result.the-variants.Refused k) × (after ≡ before))
       ((r ≡ count-result.the-variants.Done (places (length received) w)) ×
       Written (ByteAt f received w) (places (length received) w) before after)
   pub table :
-      (f : List ℕ) (w : Window) (before : List ℕ) (r : CountResult) (after : List ℕ) → TablePromise f w before r after →
-      Judged (givenTable f w before []) (λ k. (r ≡ count-result.the-variants.Refused k) × (after ≡ before))
+      (f : List ℕ) (w : Window) (before : List ℕ) (others : List Bytes) (r : CountResult) (after : List ℕ) →
+      TableWith f w before (longEnough others) r after →
+      Judged (givenTable f w before others) (λ k. (r ≡ count-result.the-variants.Refused k) × (after ≡ before))
       ((r ≡ count-result.the-variants.Done (tableSize (outputsOf f) w)) ×
       Written (EntryOf f w) (tableSize (outputsOf f) w) before after)
   pub search :
-      (o : Order) (f : List ℕ) (p : ℕ) (before : List ℕ) (r : SearchResult) (after : List ℕ) → SearchPromise o f p before r after →
-      Judged (givenSearch f p before []) (λ k. (r ≡ search-result.the-variants.Refused k) × (after ≡ before))
+      (o : Order) (f : List ℕ) (p : ℕ) (before : List ℕ) (others : List Bytes) (r : SearchResult) (after : List ℕ) →
+      SearchWith o f p before (longEnough others) r after →
+      Judged (givenSearch f p before others) (λ k. (r ≡ search-result.the-variants.Refused k) × (after ≡ before))
       (FoundVerdict o f p r before after)
   pub check :
-      (f : List ℕ) (q : mealy.LoopedPair) (r : CheckResult) → CheckPromise f q r →
-      Judged (givenCheck f q []) (λ k. r ≡ check-result.the-variants.Refused k) (CheckedRight f q r)
+      (f : List ℕ) (q : mealy.LoopedPair) (others : List Bytes) (r : CheckResult) → CheckWith f q (longEnough others) r →
+      Judged (givenCheck f q others) (λ k. r ≡ check-result.the-variants.Refused k) (CheckedRight f q r)
   pub write :
-      (n i o : ℕ) (entries before : List ℕ) (r : CountResult) (after : List ℕ) → WritePromise n i o entries before r after →
-      Judged (givenWrite n i o entries before []) (λ k. (r ≡ count-result.the-variants.Refused k) × (after ≡ before))
+      (n i o : ℕ) (entries before : List ℕ) (others : List Bytes) (r : CountResult) (after : List ℕ) →
+      WriteWith n i o entries before (longEnough others) r after →
+      Judged (givenWrite n i o entries before others) (λ k. (r ≡ count-result.the-variants.Refused k) × (after ≡ before))
       ((r ≡ count-result.the-variants.Done (length (fileOf n i o entries))) ×
       (after ≡ withFront (fileOf n i o entries) before))
-  -- from C the number is returned, and there is the result buffer besides
-  pub run-from-C :
-      (f : List ℕ) (s : ℕ) (xs before result : List ℕ) (r : ℕ) (after result′ : List ℕ) →
-      RunHosted f s xs before result r after result′ →
-      Hosted (refusalOf (givenRun f s xs before (givenResult result))) r (BothStay before result after result′)
-      (RunGiven f s xs before result after result′)
-  pub search-from-C :
-      (f : List ℕ) (p : ℕ) (before result : List ℕ) (r : ℕ) (after result′ : List ℕ) → SearchHosted f p before result r after result′ →
-      Hosted (refusalOf (givenSearch f p before (givenResult result))) r (BothStay before result after result′)
-      (VerdictGiven f p before result after result′)
-  pub decode-from-C :
-      (f : List ℕ) (w : Window) (received before result : List ℕ) (r : ℕ) (after result′ : List ℕ) →
-      DecodeHosted f w received before result r after result′ →
-      Hosted (refusalOf (givenString f w received before (givenResult result))) r (BothStay before result after result′)
-      (BytesGiven (places (length received) w) (ByteAt f received w) before result after result′)
-  pub table-from-C :
-      (f : List ℕ) (w : Window) (before result : List ℕ) (r : ℕ) (after result′ : List ℕ) →
-      TableHosted f w before result r after result′ →
-      Hosted (refusalOf (givenTable f w before (givenResult result))) r (BothStay before result after result′)
-      (BytesGiven (tableSize (outputsOf f) w) (EntryOf f w) before result after result′)
-  pub check-from-C :
-      (f : List ℕ) (q : mealy.LoopedPair) (result : List ℕ) (r : ℕ) (result′ : List ℕ) → CheckHosted f q result r result′ →
-      Hosted (refusalOf (givenCheck f q (givenResult result))) r (result′ ≡ result) (JudgementGiven f q result result′)
-  pub window-from-C :
-      (f : List ℕ) (w : Window) (received result : List ℕ) (r : ℕ) (result′ : List ℕ) →
-      WindowHosted f w received result r result′ →
-      Hosted (refusalOf (givenWindow f w received (givenResult result))) r (result′ ≡ result) (AnswerGiven f w received result result′)
-  pub write-from-C :
-      (n i o : ℕ) (entries before result : List ℕ) (r : ℕ) (after result′ : List ℕ) →
-      WriteHosted n i o entries before result r after result′ →
-      Hosted (refusalOf (givenWrite n i o entries before (givenResult result))) r (BothStay before result after result′)
-      (FileGiven (fileOf n i o entries) before result after result′)
 
 -- ---- demand 2: the machine of the table runs; the answer goes by what fits; letters come back
 
@@ -152,11 +128,17 @@ pub record Said (S : Setting) (w : List ℕ) (b : ℕ) (v : theory.Answer) : Typ
   pub several : Two S w b → v ≡ theory.several
   pub no-run : v ≡ theory.none → NoRun S w
 
+-- "Decoding", third sentence: an answer written as a byte
+abbrev pub byteSaid : theory.Answer → ℕ
+byteSaid (theory.letter x) = x
+byteSaid theory.none = 254
+byteSaid theory.several = 255
+
 -- v is the byte of such an answer
 pub record SaidByte (S : Setting) (w : List ℕ) (b v : ℕ) : Type 0 where
   pub answer : theory.Answer
   pub said : Said S w b answer
-  pub byte : v ≡ byteOf answer
+  pub byte : v ≡ byteSaid answer
 
 pub record Demand2 : Type 0 where
   -- first sentence: outputs and end state are those of the file's machine
@@ -211,39 +193,22 @@ pub record Demand3 : Type 0 where
   pub search :
       (o : Order) (f : List ℕ) (p : ℕ) (before : List ℕ) (v : Verdict) (after : List ℕ) →
       SearchPromise o f p before (search-result.the-variants.Found v) after → Demanded o f p v after
-  -- a search from C that returns 0 has such a verdict, in the default order, in the fields of its result
+  -- a search from C that returns 0 has such a verdict, by least lookahead (document 02, 1/13), in the fields of its result
   pub search-from-C :
-      (f : List ℕ) (p : ℕ) (before result after result′ : List ℕ) → SearchHosted f p before result 0 after result′ →
-      (v : Verdict) × (result′ ≡ withFields result (verdictFields v)) × Demanded defaultOrder f p v after
+      (f : List ℕ) (p : ℕ) (before result after result′ : List ℕ) → SearchFromHost f p before result 0 after result′ →
+      (v : Verdict) × (result′ ≡ withFields result (verdictFields v)) × Demanded LeastLookahead f p v after
 
 -- ---- the calls from C
 
--- With a result buffer that is long enough, what a call from C gives is what the library's own call gives, so that all that is demanded
--- of the one is had from the other.
-pub record FromC : Type 0 where
-  pub run :
-      (f : List ℕ) (s : ℕ) (xs before result : List ℕ) (r : ℕ) (after result′ : List ℕ) → resultBytes ≤ length result →
-      RunHosted f s xs before result r after result′ →
-      Handed (λ own. RunPromise f s xs before own after) laidRun result r result′
-  pub search :
-      (f : List ℕ) (p : ℕ) (before result : List ℕ) (r : ℕ) (after result′ : List ℕ) → resultBytes ≤ length result →
-      SearchHosted f p before result r after result′ →
-      Handed (λ own. SearchPromise defaultOrder f p before own after) laidSearch result r result′
-  pub decode :
-      (f : List ℕ) (w : Window) (received before result : List ℕ) (r : ℕ) (after result′ : List ℕ) → resultBytes ≤ length result →
-      DecodeHosted f w received before result r after result′ →
-      Handed (λ own. StringPromise f w received before own after) laidCount result r result′
-  pub table :
-      (f : List ℕ) (w : Window) (before result : List ℕ) (r : ℕ) (after result′ : List ℕ) → resultBytes ≤ length result →
-      TableHosted f w before result r after result′ →
-      Handed (λ own. TablePromise f w before own after) laidCount result r result′
-  pub check :
-      (f : List ℕ) (q : mealy.LoopedPair) (result : List ℕ) (r : ℕ) (result′ : List ℕ) → resultBytes ≤ length result →
-      CheckHosted f q result r result′ → Handed (CheckPromise f q) laidCheck result r result′
-  pub window :
-      (f : List ℕ) (w : Window) (received result : List ℕ) (r : ℕ) (result′ : List ℕ) → resultBytes ≤ length result →
-      WindowHosted f w received result r result′ → Handed (WindowPromise f w received) laidWindow result r result′
-  pub write :
-      (n i o : ℕ) (entries before result : List ℕ) (r : ℕ) (after result′ : List ℕ) → resultBytes ≤ length result →
-      WriteHosted n i o entries before result r after result′ →
-      Handed (λ own. WritePromise n i o entries before own after) laidCount result r result′
+-- For every call, whatever its promise and its fields: a call from C gives an outcome of the library's own call that has the result buffer
+-- as one more lent buffer, laid out. So all that is said of the one is had from the other.
+pub record FromC : Type 1 where
+  pub call :
+      {R : Type 0} (Promise : Bool → R → Type 0) (laid : R → Laid) (result : List ℕ) (r : ℕ) (result′ : List ℕ) →
+      FromHost Promise laid result r result′ → Handed (Promise (longEnough (resultGiven result))) laid result r result′
+  -- a refusal is returned, and the result buffer stays
+  pub refused : (k : ℕ) (result : List ℕ) (r : ℕ) (result′ : List ℕ) → LaidOut (refused k) result r result′ → (r ≡ k) × (result′ ≡ result)
+  -- with a result buffer of 64 bytes or more the outcome is the own call's
+  pub own :
+      {R : Type 0} (Promise : Bool → R → Type 0) (laid : R → Laid) (result : List ℕ) (r : ℕ) (result′ : List ℕ) → 64 ≤ length result →
+      FromHost Promise laid result r result′ → Handed (Promise true) laid result r result′

@@ -15,7 +15,7 @@ use Rattle.values.specs.declared.CountResult.the-variants.{Done}
 use Rattle.placing.specs.Placed.{withFront}
 use Rattle.writer.specs.Write.{WroteFile, WritePromise}
 use Rattle.layout.specs.Layout.{resultBytes, fieldAt}
-use Rattle.lowhenita.specs.Host.{WriteHosted}
+use Rattle.writer.specs.Laid.{WriteFromHost}
 
 -- What the reader's two calls give for a file, wherever that lies: h, and the entries in `part`.
 pub record Read (f : List ℕ) (h : Header) (part : List ℕ) : Type 0 where
@@ -40,7 +40,7 @@ WrittenRead =
 -- From C: the call returned 0, and the host reads the number of bytes from field 0.
 abbrev pub WrittenReadFromC : Type 0
 WrittenReadFromC =
-    (n i o : ℕ) (entries before result after result′ : List ℕ) → WriteHosted n i o entries before result 0 after result′ →
+    (n i o : ℕ) (entries before result after result′ : List ℕ) → WriteFromHost n i o entries before result 0 after result′ →
     ReadsBack n i o entries (take (fieldAt result′ 0) after)
 
 -- ---- what was read, written
@@ -66,7 +66,7 @@ abbrev pub ReadWrittenFromC : Type 0
 ReadWrittenFromC =
     (f : List ℕ) → Letters 256 f → fileRefusal f ≡ 0 → (before result : List ℕ) (r : ℕ) (after result′ : List ℕ) →
     length f ≤ length before → resultBytes ≤ length result →
-    WriteHosted (statesOf f) (inputsOf f) (outputsOf f) (entriesOf f) before result r after result′ →
+    WriteFromHost (statesOf f) (inputsOf f) (outputsOf f) (entriesOf f) before result r after result′ →
     (r ≡ 0) × (fieldAt result′ 0 ≡ length f) × (after ≡ withFront f before)
 
 -- ---- one file

@@ -9,7 +9,7 @@ use Rattle.coder.specs.File.{fileRefusal, inputsOf, machineOf}
 use Rattle.running.specs.Run.{RunPromise}
 use Rattle.running.specs.declared.RunResult.{RunResult}
 use Rattle.running.specs.declared.RunResult as run
-use Rattle.values.specs.Window.{window}
+use Rattle.values.specs.Window.{window, size}
 use Rattle.values.specs.declared.Window.{Window}
 use Rattle.values.specs.declared.Order.{Order}
 use Rattle.values.specs.declared.CountResult.{CountResult}
@@ -19,7 +19,9 @@ use Rattle.search.specs.declared.Verdict.the-variants.{Least}
 use Rattle.search.specs.declared.SearchResult.the-variants.{Found}
 use Rattle.decoder.specs.Places.{places, StringPromise}
 use Rattle.layout.specs.Layout.{resultBytes, fieldAt}
-use Rattle.lowhenita.specs.Host.{RunHosted, SearchHosted, DecodeHosted}
+use Rattle.running.specs.Laid.{RunFromHost}
+use Rattle.search.specs.Laid.{SearchFromHost}
+use Rattle.decoder_host.specs.Laid.{StringFromHost}
 
 -- The letters xs can be coded from state s: the file is accepted, the state is reachable (document 02, 5/13, last sentence), and the
 -- letters are the coder's.
@@ -31,7 +33,7 @@ pub record Coded (f : List ℕ) (s : ℕ) (xs : List ℕ) : Type 0 where
 -- The decoded bytes are the input letters, each at its place: those with a full window and as many letters ahead of it as the settle count
 -- says (document 02, 6/13, the sentence on strings).
 abbrev pub Back : List ℕ → Window → List ℕ → Type 0
-Back xs w decoded = (k : ℕ) → w .settle ≤ k → k < places (length xs) w → getD decoded k 0 ≡ getD xs (k + w .before) 0
+Back xs w decoded = (k : ℕ) → w .settle ≤ k → k + size w ≤ length xs → getD decoded k 0 ≡ getD xs (k + w .before) 0
 
 -- What the three calls give, w being the window that the search reports: neither run nor decoder is refused, and the letters are
 -- back.
@@ -76,9 +78,9 @@ abbrev pub LettersComeBackFromC : Type 0
 LettersComeBackFromC =
     (f : List ℕ) (s : ℕ) (xs : List ℕ) → Coded f s xs → FieldHolds (length xs) →
     (before₁ result₁ : List ℕ) (r₁ : ℕ) (after₁ result₁′ : List ℕ) → length xs ≤ length before₁ → resultBytes ≤ length result₁ →
-    RunHosted f s xs before₁ result₁ r₁ after₁ result₁′ →
-    (p : ℕ) (before₂ result₂ after₂ result₂′ : List ℕ) → SearchHosted f p before₂ result₂ 0 after₂ result₂′ → fieldAt result₂′ 0 ≡ 0 →
+    RunFromHost f s xs before₁ result₁ r₁ after₁ result₁′ →
+    (p : ℕ) (before₂ result₂ after₂ result₂′ : List ℕ) → SearchFromHost f p before₂ result₂ 0 after₂ result₂′ → fieldAt result₂′ 0 ≡ 0 →
     (before₃ result₃ : List ℕ) (r₃ : ℕ) (after₃ result₃′ : List ℕ) →
     places (length xs) (windowRead result₂′ p) ≤ length before₃ → resultBytes ≤ length result₃ →
-    DecodeHosted f (windowRead result₂′ p) (take (fieldAt result₁′ 0) after₁) before₃ result₃ r₃ after₃ result₃′ →
+    StringFromHost f (windowRead result₂′ p) (take (fieldAt result₁′ 0) after₁) before₃ result₃ r₃ after₃ result₃′ →
     HostRoundTrip xs (windowRead result₂′ p) r₁ result₁′ r₃ result₃′ after₃

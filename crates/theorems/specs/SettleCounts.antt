@@ -3,24 +3,24 @@
 -- same; and that the looped pair does not depend on it.
 use Prim.Native.Nat.{ℕ, _≤_}
 use mathlib.Core.Path.{_≡_}
+use mathlib.Core.Bool.{Bool}
 use mathlib.Core.Logic.{_↔_}
 use mathlib.Core.List.{List}
 use Rattle.mealy.specs.Window.{Works, SameLetter}
 use Rattle.mealy.specs.Answer.{Fits, FitsAfter}
-use Rattle.coder.specs.Limits.{maxSettle}
 use Rattle.coder.specs.File.{fileRefusal, machineOf, settingAfter}
 use Rattle.values.specs.Window as values
 use Rattle.values.specs.Order.{defaultOrder}
 use Rattle.values.specs.declared.Window.{Window}
 use Rattle.values.specs.declared.Order.{Order}
 use Rattle.values.specs.declared.LoopedPair.{LoopedPair}
-use Rattle.search.specs.Search.{IsNoDecoder, SearchPromise}
+use Rattle.search.specs.Search.{IsNoDecoder, SearchWith, SearchPromise}
 use Rattle.search.specs.declared.Verdict.{Verdict}
 use Rattle.search.specs.declared.Verdict.the-variants.{Least, NoDecoder}
 use Rattle.search.specs.declared.SearchResult.{SearchResult}
 use Rattle.search.specs.declared.SearchResult.the-variants.{Refused, Found}
 use Rattle.layout.specs.Layout.{fieldAt}
-use Rattle.lowhenita.specs.Host.{SearchHosted}
+use Rattle.search.specs.Laid.{SearchFromHost}
 use Rattle.theorems.specs.RoundTrip.{windowRead}
 use Rattle.theorems.specs.Demands.{NoLater}
 use Rattle.theorems.specs.SameAnswers.{SameAnswers, SameAnswersFromC}
@@ -37,11 +37,11 @@ resultWith p (Found v) = Found (verdictWith p v)
 -- Two settle counts of an accepted file with which everything is the same: the search reports windows with the same sides.
 pub record SameWith (f : List ℕ) (p p′ : ℕ) : Type 0 where
   pub search :
-      (o : Order) (before : List ℕ) (r r′ : SearchResult) (after after′ : List ℕ) → SearchPromise o f p before r after →
-      SearchPromise o f p′ before r′ after′ → (resultWith p′ r ≡ r′) × (after ≡ after′)
+      (o : Order) (before : List ℕ) (others : Bool) (r r′ : SearchResult) (after after′ : List ℕ) → SearchWith o f p before others r after →
+      SearchWith o f p′ before others r′ after′ → (resultWith p′ r ≡ r′) × (after ≡ after′)
   pub search-from-C :
-      (before result : List ℕ) (r r′ : ℕ) (after after′ given given′ : List ℕ) → SearchHosted f p before result r after given →
-      SearchHosted f p′ before result r′ after′ given′ → (r ≡ r′) × ((after ≡ after′) × (given ≡ given′))
+      (before result : List ℕ) (r r′ : ℕ) (after after′ given given′ : List ℕ) → SearchFromHost f p before result r after given →
+      SearchFromHost f p′ before result r′ after′ given′ → (r ≡ r′) × ((after ≡ after′) × (given ≡ given′))
   pub answers : SameAnswers f f p p′
   pub answers-from-C : SameAnswersFromC f f p p′
 
@@ -61,7 +61,7 @@ pub record SettleCounts : Type 0 where
       NoLater o w′ (w .before) (w .after)
   -- from 15 to 64, as a coder has at most 16 states
   pub from-15 :
-      (f : List ℕ) (p p′ : ℕ) → fileRefusal f ≡ 0 → 15 ≤ p → p ≤ maxSettle → 15 ≤ p′ → p′ ≤ maxSettle → SameWith f p p′
+      (f : List ℕ) (p p′ : ℕ) → fileRefusal f ≡ 0 → 15 ≤ p → p ≤ 64 → 15 ≤ p′ → p′ ≤ 64 → SameWith f p p′
   -- the looped pair, with any two settle counts and in any two orders
   pub pair :
       (o o′ : Order) (f : List ℕ) (p p′ : ℕ) (before : List ℕ) (q q′ : LoopedPair) (after after′ : List ℕ) →
@@ -70,11 +70,11 @@ pub record SettleCounts : Type 0 where
   -- from C: field 0 says whether there is a window, of which fields 1 and 2 are the sides
   pub existence-from-C :
       (f : List ℕ) (p p′ : ℕ) (before result after given before′ result′ after′ given′ : List ℕ) →
-      SearchHosted f p before result 0 after given → SearchHosted f p′ before′ result′ 0 after′ given′ → fieldAt given 0 ≡ fieldAt given′ 0
+      SearchFromHost f p before result 0 after given → SearchFromHost f p′ before′ result′ 0 after′ given′ → fieldAt given 0 ≡ fieldAt given′ 0
   pub larger-no-later-from-C :
       (f : List ℕ) (p p′ : ℕ) (before result after given before′ result′ after′ given′ : List ℕ) → p ≤ p′ →
-      SearchHosted f p before result 0 after given → SearchHosted f p′ before′ result′ 0 after′ given′ → fieldAt given 0 ≡ 0 →
+      SearchFromHost f p before result 0 after given → SearchFromHost f p′ before′ result′ 0 after′ given′ → fieldAt given 0 ≡ 0 →
       NoLater defaultOrder (windowRead given′ p′) (fieldAt given 1) (fieldAt given 2)
   pub pair-from-C :
-      (f : List ℕ) (p p′ : ℕ) (before result after given after′ given′ : List ℕ) → SearchHosted f p before result 0 after given →
-      SearchHosted f p′ before result 0 after′ given′ → fieldAt given 0 ≡ 1 → (after ≡ after′) × (given ≡ given′)
+      (f : List ℕ) (p p′ : ℕ) (before result after given after′ given′ : List ℕ) → SearchFromHost f p before result 0 after given →
+      SearchFromHost f p′ before result 0 after′ given′ → fieldAt given 0 ≡ 1 → (after ≡ after′) × (given ≡ given′)

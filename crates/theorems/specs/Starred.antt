@@ -1,6 +1,7 @@
 -- The starred cases of document 01 ("Example coders"): one table of coder files and what is claimed of each; the windows in both orders,
 -- with those of the coders G and H that document 02, 1/13, 5/13 and 6/13, name, and the first looped pairs, with the one of coder C that
--- 2/13 names. Coder F, which is not starred, stands here because 7/13 says that every example is accepted. A claim on a call says that every outcome that the call promises on this file is the one named.
+-- 2/13 names. Coder F, which is not starred, stands here because 7/13 says that every example is
+-- accepted. A claim on a call says that every outcome that the call promises on this file is the one named.
 use Prim.Native.Nat.{ℕ, _≤_, _<_}
 use mathlib.Core.Path.{_≡_}
 use mathlib.Core.Logic.{_≢_}
@@ -8,7 +9,6 @@ use mathlib.Core.Bool.{true, false}
 use mathlib.Core.List.{List, [], _∷_, _++_}
 use lib.ListN.{length, drop}
 use Rattle.mealy.specs.LoopedPair as mealy
-use Rattle.coder.specs.Limits.{maxSettle}
 use Rattle.coder.specs.File.{fileRefusal, headerOf, statesOf, inputsOf, machineOf}
 use Rattle.coder.specs.declared.Header.{Header}
 use Rattle.coder.specs.declared.Header.the-variants.{Counts}
@@ -25,12 +25,13 @@ use Rattle.values.specs.declared.CountResult.the-variants.{Done}
 use Rattle.fitting.specs.declared.Answer.{Answer}
 use Rattle.fitting.specs.declared.Answer.the-variants.{Letter, None, Several}
 use Rattle.decoder.specs.Window.{WindowPromise}
+use Rattle.decoder.specs.Places.{StringPromise}
 use Rattle.decoder.specs.Table.{TablePromise}
 use Rattle.decoder.specs.declared.WindowResult.{WindowResult}
 use Rattle.decoder.specs.declared.WindowResult.the-variants.{Answered}
 use Rattle.placing.specs.Placed.{withFront}
 use Rattle.writer.specs.Write.{WroteFile, WritePromise}
-use Rattle.search.specs.Search.{wanted, SearchPromise}
+use Rattle.search.specs.Search.{SearchPromise}
 use Rattle.search.specs.declared.Verdict.the-variants.{Least, NoDecoder}
 use Rattle.search.specs.declared.SearchResult.{SearchResult}
 use Rattle.search.specs.declared.SearchResult.the-variants.{Found}
@@ -54,6 +55,8 @@ pub data Claim : Type 0 where
   different-outputs : Claim
   -- the answer for the letters of a window
   answer : ℕ → ℕ → ℕ → List ℕ → Answer → Claim
+  -- the bytes for the letters of a string with a window
+  string : ℕ → ℕ → ℕ → List ℕ → List ℕ → Claim
   -- the decoder table of a window
   table : ℕ → ℕ → ℕ → List ℕ → Claim
   -- a run: start state, input letters, output letters, end state
@@ -70,10 +73,10 @@ Holds f (written n i o entries) =
     (before : List ℕ) (r : CountResult) (after : List ℕ) → length f ≤ length before → WritePromise n i o entries before r after →
     WroteFile f before r after
 Holds f (window o b a p) =
-    (before : List ℕ) (r : SearchResult) (after : List ℕ) → wanted ≤ length before → SearchPromise o f p before r after →
+    (before : List ℕ) (r : SearchResult) (after : List ℕ) → 1026 ≤ length before → SearchPromise o f p before r after →
     (r ≡ Found (Least (values.window b a p))) × (after ≡ before)
 Holds f (no-decoder s t bytes) =
-    ((o : Order) (p : ℕ) (before : List ℕ) (r : SearchResult) (after : List ℕ) → p ≤ maxSettle → wanted ≤ length before →
+    ((o : Order) (p : ℕ) (before : List ℕ) (r : SearchResult) (after : List ℕ) → p ≤ 64 → 1026 ≤ length before →
     SearchPromise o f p before r after →
     (r ≡ Found (NoDecoder (loopedPair s t 1 0 0 1))) × (after ≡ withFront bytes before)) ×
     ((r : CheckResult) → CheckPromise f (pair s t bytes) r → r ≡ Checked true)
@@ -81,6 +84,9 @@ Holds f (not-valid s t bytes) = (r : CheckResult) → CheckPromise f (pair s t b
 Holds f different-outputs =
     (s i j : ℕ) → s < statesOf f → i < inputsOf f → j < inputsOf f → i ≢ j → machineOf f .out s i ≢ machineOf f .out s j
 Holds f (answer b a p received v) = (r : WindowResult) → WindowPromise f (values.window b a p) received r → r ≡ Answered v
+Holds f (string b a p received bytes) =
+    (before : List ℕ) (r : CountResult) (after : List ℕ) → length bytes ≤ length before →
+    StringPromise f (values.window b a p) received before r after → (r ≡ Done (length bytes)) × (after ≡ withFront bytes before)
 Holds f (table b a p bytes) =
     (before : List ℕ) (r : CountResult) (after : List ℕ) → length bytes ≤ length before →
     TablePromise f (values.window b a p) before r after → (r ≡ Done (length bytes)) × (after ≡ withFront bytes before)
@@ -97,7 +103,7 @@ starred =
     -- A, running parity
     record {
       file = 1 ∷ 0 ∷ 11 ∷ 2 ∷ 2 ∷ 2 ∷ 0 ∷ 0 ∷ 1 ∷ 1 ∷ 1 ∷ 1 ∷ 0 ∷ 0 ∷ [];
-      claims = counts 2 2 2 ∷ written 2 2 2 (0 ∷ 0 ∷ 1 ∷ 1 ∷ 1 ∷ 1 ∷ 0 ∷ 0 ∷ []) ∷ window defaultOrder 1 0 0 ∷ window FewestLetters 1 0 0 ∷ table 1 0 0 (0 ∷ 1 ∷ 1 ∷ 0 ∷ []) ∷ run 0 (1 ∷ 1 ∷ 0 ∷ []) (1 ∷ 0 ∷ 0 ∷ []) 0 ∷ [];
+      claims = counts 2 2 2 ∷ written 2 2 2 (0 ∷ 0 ∷ 1 ∷ 1 ∷ 1 ∷ 1 ∷ 0 ∷ 0 ∷ []) ∷ window defaultOrder 1 0 0 ∷ window FewestLetters 1 0 0 ∷ table 1 0 0 (0 ∷ 1 ∷ 1 ∷ 0 ∷ []) ∷ string 1 0 0 (1 ∷ 0 ∷ 0 ∷ []) (1 ∷ 0 ∷ []) ∷ string 1 0 0 (1 ∷ []) [] ∷ run 0 (1 ∷ 1 ∷ 0 ∷ []) (1 ∷ 0 ∷ 0 ∷ []) 0 ∷ [];
     } ∷
     -- B, one state
     record { file = 1 ∷ 0 ∷ 7 ∷ 1 ∷ 2 ∷ 2 ∷ 0 ∷ 0 ∷ 0 ∷ 1 ∷ []; claims = window defaultOrder 0 0 0 ∷ window FewestLetters 0 0 0 ∷ [] } ∷

@@ -1,3 +1,4 @@
 -- Laws of the writer.
 pub mod Writing
 pub mod Determined
+pub mod Hosting

@@ -1,2 +1,3 @@
 -- What the contracts of the writer cite.
 pub mod Write
+pub mod Laid

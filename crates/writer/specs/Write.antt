@@ -32,10 +32,14 @@ pub record FilePromise (k : ℕ) (file before : List ℕ) (r : CountResult) (aft
 abbrev pub WroteFile : List ℕ → List ℕ → CountResult → List ℕ → Type 0
 WroteFile file before r after = FilePromise 0 file before r after
 
--- The writer's promise: the file of the counts and the entry bytes.
+-- The writer's promise: the file of the counts and the entry bytes; `others` says whether the other lent buffers are long enough.
+abbrev pub WriteWith : ℕ → ℕ → ℕ → List ℕ → List ℕ → Bool → CountResult → List ℕ → Type 0
+WriteWith n i o entries before others r after =
+    FilePromise (writeRefusalIn n i o entries (length before) others) (fileOf n i o entries) before r after
+
+-- The library's own call lends no other buffer.
 abbrev pub WritePromise : ℕ → ℕ → ℕ → List ℕ → List ℕ → CountResult → List ℕ → Type 0
-WritePromise n i o entries before r after =
-    FilePromise (writeRefusalIn n i o entries (length before) true) (fileOf n i o entries) before r after
+WritePromise n i o entries before r after = WriteWith n i o entries before true r after
 
 -- what the checked part asks: no refusal applies to the counts and the entry bytes, and the buffer has room for the file
 pub record WriteAsked (n i o : ℕ) (entries before : List ℕ) : Type 0 where

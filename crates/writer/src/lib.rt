@@ -2,7 +2,8 @@
 ghost use Rattle.writer.specs.Write.{WritePromise};
 use values::CountResult;
 
-pub mod inner; // inner.rt: the writer's refusal, and the file of a checked call
+pub mod inner; // inner.rt: the writer with other lent buffers besides its own; no public calls
+pub mod host; // host.rt: the call from C
 
 // Writes the file of three counts and their entry bytes. Refusals 4 to 6, 15, 11.
 pub fn write(
@@ -14,10 +15,5 @@ pub fn write(
 ) -> CountResult
     ensures { λ r. ⌜ WritePromise states inputs outputs (now (entries .entry)) (now (file .entry)) r (now (file .exit)) ⌝ }
 {
-    let k = inner::refusal(states, inputs, outputs, entries, file.len(), true);
-    if k != 0 {
-        return CountResult::Refused(k);
-    }
-    let count = inner::checked(states, inputs, outputs, entries, file);
-    CountResult::Done { count }
+    inner::write(states, inputs, outputs, entries, file, true)
 }

@@ -6,10 +6,11 @@ ghost use Rattle.decoder.specs.Table.{tableRefusalIn};
 use crate::inner::sizes;
 use coder::inner::bytes::byte;
 use coder::inner::bytes::letters_below;
-use coder::inner::tables::Coder;
 use table_size::inner::allowed;
 use table_size::inner::size;
 use values::Window;
+use window_limits::inner::settle;
+use window_limits::inner::sides;
 
 // The file's, 8 and 14, or 0.
 pub fn limits(file: &[u8], w: Window) -> usize
@@ -19,13 +20,11 @@ pub fn limits(file: &[u8], w: Window) -> usize
     if k != 0 {
         return k;
     }
-    if Coder::SIDE < w.before {
-        return 8;
+    let j = sides(w.before, w.after);
+    if j != 0 {
+        return j;
     }
-    if Coder::SIDE < w.after {
-        return 8;
-    }
-    if Coder::SETTLE < w.settle { 14 } else { 0 }
+    settle(w.settle)
 }
 
 // The refusal of a single window, or 0. `fits` says whether all lent buffers are long enough.

@@ -1,5 +1,5 @@
 -- `pair_line` meets its contract.
-use mathlib.Core.List.{[], _∷_}
+use mathlib.Core.List.{[]}
 use Rattle.values.specs.Pair.{pairOf}
 use Rattle.placing.proofs.Placing.{written-then}
 use Rattle.pair_text.proofs.Spaced.{two-length, spaced-then}
@@ -90,11 +90,7 @@ returns c =
     let t₂ = t₃ .before .before .before .before in
     let t₁ = t₂ .before .before .before .before in
     let w = t₁ .before .before .before .before in
-    let p = w .before .before .before .before .args .p in
-    let four =
-    spaced-then (p .s ∷ p .t ∷ []) (p .«back_loop» ∷ p .«lead_in» ∷ []) (t₁ .two .ensures) (t₂ .two2 .ensures) in
-    let six =
-    spaced-then (p .s ∷ p .t ∷ p .«back_loop» ∷ p .«lead_in» ∷ []) (p .«lead_out» ∷ p .«forward_loop» ∷ []) four (t₃ .two3 .ensures) in
+    let six = spaced-then _ _ (spaced-then _ _ (t₁ .two .ensures) (t₂ .two2 .ensures)) (t₃ .two3 .ensures) in
     written-then (written-then (w .put .ensures) six) (w₂ .put2 .ensures)
 
 pub pair-line-spec : {M : Type 1} → statement M

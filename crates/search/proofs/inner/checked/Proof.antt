@@ -1,5 +1,6 @@
 -- `checked` meets its contract: the verdict on the coder of the file, with words that say the file's setting.
 use mathlib.Core.Path.{ap}
+use mathlib.Core.Logic.{_≢_}
 use native.Mathlib.Omega.{arith}
 use denote.Ref.{now}
 use borrow.Author.Tests.{leb-true}
@@ -29,7 +30,8 @@ coder d = d .before .before
 
 words :
     (d : tie.After-different-letters) →
-    WordsOf (coder d .from-checked .result) (start (coder d) .args .settle) (d .before .start-states .result) (d .different-letters .result)
+    WordsOf (coder d .from-checked .result) (start (coder d) .args .settle) (λ i j. i ≢ j) (d .before .start-states .result)
+    (d .different-letters .result)
 words d = record { starts-are = d .before .start-states .ensures; conflicts-are = d .different-letters .ensures }
 
 from-checked-requires : tie.Need-from-checked-requires

@@ -1,11 +1,32 @@
--- `verdict` meets its contract: a window where no conflicting edge is endless on both sides, a looped pair where one is.
+-- `verdict` meets its contract: the least window or, where there is none, the first looped pair.
 use Rattle.chains.proofs.Entries.{output-keys}
-use Rattle.search.proofs.Verdicts.{choose-asked, window-says, some-valid, pair-says}
+use Rattle.least.specs.Report.{DepthsOf}
+use Rattle.search.proofs.Verdicts.{window-says, some-valid, pair-says}
 use Rattle.values.specs.Order.{relationOf}
-use Rattle.values.proofs.Orders.{is-order}
 use borrow.Author.Needs.{needs}
+use denote.Ref.{now}
 use Rattle.search.proofs.inner.verdict.Statement.{statement}
 use Rattle.search.proofs.inner.verdict.Tie as tie
+
+-- what was done before, seen from where the chain is known: the two calls for the depths, and the start of the call
+abbrev forwarded : tie.After-by-key → tie.After-forward
+forwarded b = b .before .before .before
+
+abbrev backed : tie.After-by-key → tie.After-back
+backed b = forwarded b .before
+
+abbrev start : tie.After-by-key → tie.Start
+start b = backed b .before .before
+
+depths :
+    (b : tie.After-by-key) →
+    DepthsOf (start b .args .t1) (start b .args .starts) (backed b .back .result) (forwarded b .forward .result)
+depths b =
+    record { closed = start b .pre .1; back-depths = backed b .back .ensures; forward-depths = forwarded b .forward .ensures }
+
+-- and the chain, seen from where the least window is known
+abbrev chained : tie.After-least-for → tie.After-by-key
+chained l = l .before .before .before .before .before .before
 
 back-requires : tie.Need-back-requires
 back-requires c κs = search needs
@@ -16,56 +37,47 @@ forward-requires c κs = search needs
 by-key-requires : tie.Need-by-key-requires
 by-key-requires c κs = output-keys _ (c .before .before .before .before .before .pre .0)
 
-count-edges-requires : tie.Need-count-edges-requires
-count-edges-requires c κs = search needs
+least-for-requires : tie.Need-least-for-requires
+least-for-requires c κs =
+    let b = c .before .before .before .before .before in
+    record { sound = start b .pre .0; chained = b .by-key .ensures; starts = start b .args .starts; depths = depths b }
 
--- what was done before, seen from the end of `count_edges`: the two calls for the depths, and the start of the call
-abbrev forwarded : tie.After-count-edges → tie.After-forward
-forwarded d = d .before .before .before .before .before .before .before .before .before .before
-
-abbrev backed : tie.After-count-edges → tie.After-back
-backed d = forwarded d .before
-
-abbrev start : tie.After-count-edges → tie.Start
-start d = backed d .before .before
+enum-told : tie.Need-enum-told
+enum-told c = search needs
 
 find-requires : tie.Need-find-requires
 find-requires c κs =
-    let d = c .before .before in
-    let p = start d .pre in
+    let e = c .before in
+    let l = e .before .before in
+    let b = chained l in
+    let s = start b in
     record {
-      sound = p .0;
-      some = some-valid _ _ _ (p .0) (p .1) (backed d .back .ensures) (forwarded d .forward .ensures) (d .count-edges .ensures) (c .before .if1 .taken);
-      room = p .2;
+      sound = s .pre .0;
+      some =
+          some-valid (s .args .t1) (s .args .starts) (now (s .args .conflicts)) (relationOf (s .args .order)) (s .args .settle)
+          (l .least-for .ensures (s .args .starts) (depths b)) (s .pre .0) (s .pre .1) (e .enum-told .given .1);
+      room = s .pre .2;
     }
+
+enum-known-least : tie.Need-enum-known-least
+enum-known-least c = search needs
 
 same-length : tie.Need-same-length
 same-length c = search needs
 
 returns : tie.Need-returns
 returns c =
-    let d = c .before .before .before .before .before in
-    let p = start d .pre in
-    pair-says _ _ _ (p .0) (p .1) (backed d .back .ensures) (forwarded d .forward .ensures) (d .count-edges .ensures)
-    (relationOf (start d .args .order)) (start d .args .settle) _ _ _ (c .before .before .find .ensures)
-
-needs-requires : tie.Need-needs-requires
-needs-requires c κs = search needs
-
-choose-requires : tie.Need-choose-requires
-choose-requires c κs =
-    let d = c .before .before .before .before in
-    let p = start d .pre in
-    choose-asked _ _ _ (p .0) (p .1) (backed d .back .ensures) (forwarded d .forward .ensures) (d .count-edges .ensures)
-    (c .before .before .before .if1 .left) (c .before .needs .result) (c .before .needs .ensures)
+    let f = c .before .before in
+    let s = start (chained (f .before .before .before .before)) in
+    pair-says _ _ _ (relationOf (s .args .order)) (s .args .settle) (s .pre .1) _ _ _ (f .find .ensures)
 
 returns-2 : tie.Need-returns-2
 returns-2 c =
-    let d = c .before .before .before .before .before in
-    let p = start d .pre in
-    window-says _ _ _ (p .0) (p .1) (backed d .back .ensures) (forwarded d .forward .ensures) (d .count-edges .ensures)
-    (c .before .before .before .before .if1 .left) (c .before .before .needs .result) (c .before .before .needs .ensures)
-    (is-order (start d .args .order)) _ _ (c .choose .ensures)
+    let l = c .before .before .before in
+    let b = chained l in
+    let s = start b in
+    window-says (s .args .t1) (s .args .starts) (now (s .args .conflicts)) (relationOf (s .args .order)) (s .args .settle)
+    (l .least-for .ensures (s .args .starts) (depths b)) _ (c .before .least .given .1)
 
 pub verdict-spec : {M : Type 1} → statement M
 verdict-spec =
@@ -74,10 +86,10 @@ verdict-spec =
     back-requires
     forward-requires
     by-key-requires
-    count-edges-requires
+    least-for-requires
+    enum-told
     find-requires
+    enum-known-least
     same-length
     returns
-    needs-requires
-    choose-requires
     returns-2)

@@ -3,7 +3,7 @@ use denote.Ref.{now}
 use native.Mathlib.Omega.{arith}
 use Rattle.decoder.proofs.Decoding.{CoderOf, sound-of, outputs-of, tables-of, right-of}
 use Rattle.decoder.proofs.Accepting.{window-accepted}
-use Rattle.coder.proofs.Refusals.{letters-higher}
+use Rattle.mealy.proofs.Letters.{letters-higher}
 use Rattle.coder.specs.File.{outputsOf}
 use Rattle.coder.specs.Limits.{maxOutputs}
 use Rattle.decoder.proofs.inner.checked.window.Statement.{statement}

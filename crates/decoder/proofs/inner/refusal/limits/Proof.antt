@@ -1,10 +1,7 @@
 -- `refusal::limits` meets its contract: the file's refusals, then 8 and 14.
 use mathlib.Core.Path.{_≡_}
-use native.Mathlib.Omega.{arith}
 use denote.Ref.{now}
 use borrow.Author.Needs.{needs}
-use borrow.Author.Tests.{lt-leb, le-leb}
-use Rattle.coder.specs.Limits.{maxSide, maxSettle}
 use Rattle.coder.specs.File.{fileRefusal}
 use Rattle.coder.proofs.Refusals.{refused-first, via}
 use Rattle.decoder.specs.Refusal.{limitsRefusal}
@@ -21,32 +18,21 @@ returns c = refused-first _ _ (c .before .refusal .ensures) (c .if1 .taken)
 file-accepted : (c : tie.Else1) → fileRefusal (now (c .before .before .before .args .file)) ≡ 0
 file-accepted c = via (c .before .refusal .ensures) (c .if1 .left)
 
+sides-requires : tie.Need-sides-requires
+sides-requires c κs = search needs
+
 returns-2 : tie.Need-returns-2
 unfolding limitsRefusal
-returns-2 c =
-    let e = c .before .before in
-    rw (file-accepted e, lt-leb (e .before .before .before .args .w .before) maxSide (omega arith))
+returns-2 c = rw (file-accepted (c .before .before)) (refused-first _ _ (c .before .sides .ensures) (c .if2 .taken))
+
+settle-requires : tie.Need-settle-requires
+settle-requires c κs = search needs
 
 returns-3 : tie.Need-returns-3
 unfolding limitsRefusal
 returns-3 c =
-    let e = c .before .before .before .before in
-    let w = e .before .before .before .args .w in
-    rw (file-accepted e, le-leb (w .before) maxSide (omega arith), lt-leb (w .after) maxSide (omega arith))
-
-returns-4 : tie.Need-returns-4
-unfolding limitsRefusal
-returns-4 c =
-    let e = c .before .before .before .before .before .before in
-    let w = e .before .before .before .args .w in
-    rw (file-accepted e, le-leb (w .before) maxSide (omega arith), le-leb (w .after) maxSide (omega arith), lt-leb (w .settle) maxSettle (omega arith))
-
-returns-5 : tie.Need-returns-5
-unfolding limitsRefusal
-returns-5 c =
-    let e = c .before .before .before .before .before .before in
-    let w = e .before .before .before .args .w in
-    rw (file-accepted e, le-leb (w .before) maxSide (omega arith), le-leb (w .after) maxSide (omega arith), le-leb (w .settle) maxSettle (omega arith))
+    let s = c .before in
+    rw (file-accepted (s .before .before), ← (s .before .sides .ensures), s .if2 .left) (c .settle .ensures)
 
 pub limits-spec : {M : Type 1} → statement M
-limits-spec = tie.close (tie.spec refusal-requires returns returns-2 returns-3 returns-4 returns-5)
+limits-spec = tie.close (tie.spec refusal-requires returns sides-requires returns-2 settle-requires returns-3)

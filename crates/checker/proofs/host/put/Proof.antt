@@ -1,0 +1,44 @@
+-- `host::put` meets its contract: a refusal changes nothing, the number of a yes or a no goes into field 0.
+use mathlib.Core.Path.{refl}
+use borrow.Author.Needs.{needs}
+use Rattle.layout.proofs.Hosting.{refused-out}
+use Rattle.checker.proofs.host.put.Statement.{statement}
+use Rattle.checker.proofs.host.put.Tie as tie
+
+enum-known-own : tie.Need-enum-known-own
+enum-known-own c = search needs
+
+enum-known-own-2 : tie.Need-enum-known-own-2
+enum-known-own-2 c = search needs
+
+number-requires : tie.Need-number-requires
+number-requires c κs = search needs
+
+put-one-requires : tie.Need-put-one-requires
+put-one-requires c κs =
+    let o = c .before .before .before in
+    (rw (o .own2 .given .1) at (o .before .before .before .pre)) refl
+
+returns : tie.Need-returns
+returns c = rw (c .before .own .given .1) (refused-out _ _)
+
+same-length : tie.Need-same-length
+same-length c = search needs
+
+returns-2 : tie.Need-returns-2
+returns-2 c =
+    let p = c .before .before in
+    let n = p .before in
+    rw (n .before .before .before .own2 .given .1) (record { number = refl; fields = rw (n .number .ensures) at (p .put-one .ensures) })
+
+pub put-spec : {M : Type 1} → statement M
+put-spec =
+    tie.close
+    (tie.spec
+    enum-known-own
+    enum-known-own-2
+    number-requires
+    put-one-requires
+    returns
+    same-length
+    returns-2)

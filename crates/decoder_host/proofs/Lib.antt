@@ -1,0 +1,2 @@
+-- The laws of the decoder's calls from C.
+pub mod Hosting

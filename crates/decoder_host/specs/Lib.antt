@@ -1,0 +1,2 @@
+-- What the contracts of the decoder's calls from C cite.
+pub mod Laid

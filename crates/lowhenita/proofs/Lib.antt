@@ -1,3 +1,0 @@
--- The laws of the calls from C.
-pub mod Handing
-pub mod Determined

@@ -1,2 +1,0 @@
--- What the contracts of the calls from C cite.
-pub mod Host

@@ -1,0 +1,2 @@
+-- The laws of a window's limits.
+pub mod Limits

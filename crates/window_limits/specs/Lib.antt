@@ -1,0 +1,2 @@
+-- What the contracts on a window's limits cite.
+pub mod Refusal
