@@ -3,4 +3,3 @@ pub mod Following
 pub mod PartsJudged
 pub mod Checking
 pub mod Determined
-pub mod Hosting

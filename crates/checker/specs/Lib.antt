@@ -1,4 +1,3 @@
 -- What the contracts of the pair checker cite.
 pub mod Check
 pub mod Follow
-pub mod Laid

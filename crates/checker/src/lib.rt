@@ -4,7 +4,6 @@ ghost use Rattle.checker.specs.Check.{CheckPromise};
 use values::LoopedPair;
 
 pub mod inner; // inner.rt: what the crates above call on checked bytes; no public calls
-pub mod host; // host.rt: the call from C
 
 // The refusal's number, or whether the pair is valid.
 pub enum CheckResult {

@@ -3,9 +3,9 @@
 ghost use Rattle.values.specs.Window.{window};
 ghost use Rattle.values.specs.Pair.{pairOf, loopedPair};
 ghost use Rattle.running.specs.Laid.{RunFromHost};
-ghost use Rattle.search.specs.Laid.{SearchFromHost};
+ghost use Rattle.search_host.specs.Laid.{SearchFromHost};
 ghost use Rattle.decoder_host.specs.Laid.{WindowFromHost, StringFromHost, TableFromHost};
-ghost use Rattle.checker.specs.Laid.{CheckFromHost};
+ghost use Rattle.checker_host.specs.Laid.{CheckFromHost};
 ghost use Rattle.writer.specs.Laid.{WriteFromHost};
 
 // Runs the coder from a start state: writes an output letter for each input letter. The file's refusals, 7, 11, 12.
@@ -33,7 +33,7 @@ pub extern "C" fn lowhenita_search(
 ) -> usize
     ensures { λ r. ⌜ SearchFromHost (now (file .entry)) settle (now (letters .entry)) (now (result .entry)) r (now (letters .exit)) (now (result .exit)) ⌝ }
 {
-    search::host::search(file, settle, letters, result)
+    search_host::search(file, settle, letters, result)
 }
 
 // Decodes each place of a string that has a full window. The file's refusals, 8, 14, 11, 13.
@@ -67,7 +67,7 @@ pub extern "C" fn lowhenita_check(
 ) -> usize
     ensures { λ r. ⌜ CheckFromHost (now (file .entry)) (pairOf (loopedPair s t «back_loop» «lead_in» «lead_out» «forward_loop») (now (letters .entry))) (now (result .entry)) r (now (result .exit)) ⌝ }
 {
-    checker::host::check(
+    checker_host::check(
         file,
         s,
         t,

@@ -3,4 +3,3 @@ pub mod Verdicts
 pub mod Files
 pub mod Determined
 pub mod Exists
-pub mod Hosting

@@ -1,3 +1,2 @@
 -- What the contracts of the search cite.
 pub mod Search
-pub mod Laid

@@ -4,7 +4,6 @@ ghost use Rattle.search.specs.Search.{SearchPromise};
 use values::Order;
 
 pub mod inner; // inner.rt: the search with other lent buffers besides its own; no public calls
-pub mod host; // host.rt: the call from C
 
 // The least window that works, in the order of the search, or the first looped pair, which excludes every window; its letters lie in the
 // lent buffer.

@@ -22,7 +22,7 @@ use Rattle.values.specs.declared.CountResult.{CountResult}
 use Rattle.fitting.specs.Answer.{meaning}
 use Rattle.fitting.proofs.Answers.{byte-same}
 use Rattle.search.specs.Search.{searchRefusal, searchRefusalIn, SaysOf, FoundVerdict, RefusedSearch, SearchWith}
-use Rattle.search.specs.Laid.{laidSearch, SearchFromHost}
+use Rattle.search_host.specs.Laid.{laidSearch, SearchFromHost}
 use Rattle.search.specs.declared.Verdict.{Verdict}
 use Rattle.search.specs.declared.Verdict.the-variants.{Least, NoDecoder}
 use Rattle.search.specs.declared.SearchResult.{SearchResult}

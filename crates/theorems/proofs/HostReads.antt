@@ -15,14 +15,14 @@ use Rattle.product.proofs.Depths.{pairs-high}
 use Rattle.values.specs.Window.{window}
 use Rattle.values.specs.Order.{defaultOrder}
 use Rattle.search.specs.Search.{searchRefusalIn, RefusedSearch, FoundVerdict, SearchPromise}
-use Rattle.search.specs.Laid.{verdictFields, laidSearch, SearchFromHost}
+use Rattle.search_host.specs.Laid.{verdictFields, laidSearch, SearchFromHost}
 use Rattle.search.specs.declared.SearchResult.{SearchResult}
 use Rattle.search.specs.declared.SearchResult.the-variants.{Found}
 use Rattle.search.specs.declared.Verdict.{Verdict}
 use Rattle.search.specs.declared.Verdict.the-variants.{Least, NoDecoder}
 use Rattle.search.proofs.Files.{search-accepted}
 use Rattle.search.proofs.Determined.{found}
-use Rattle.search.proofs.Hosting.{search-others}
+use Rattle.search_host.proofs.Hosting.{search-others}
 use Rattle.layout.specs.Layout.{withFields, fieldAt}
 use Rattle.layout.specs.Host.{Laid, done, LaidOut}
 use Rattle.layout.proofs.Reading.{field-at}

@@ -20,14 +20,14 @@ use Rattle.values.specs.Order.{defaultOrder}
 use Rattle.values.specs.declared.LoopedPair.{LoopedPair}
 use Rattle.values.specs.declared.Order.{Order}
 use Rattle.search.specs.Search.{SearchPromise}
-use Rattle.search.specs.Laid.{verdictFields, SearchFromHost}
+use Rattle.search_host.specs.Laid.{verdictFields, SearchFromHost}
 use Rattle.search.specs.declared.SearchResult.the-variants.{Found}
 use Rattle.search.specs.declared.Verdict.{Verdict}
 use Rattle.search.specs.declared.Verdict.the-variants.{Least, NoDecoder}
 use Rattle.search.proofs.Files.{search-accepted}
 use Rattle.search.proofs.Determined.{found, pair-short}
 use Rattle.checker.specs.Check.{checkRefusal, CheckedRight, CheckWith, CheckPromise}
-use Rattle.checker.specs.Laid.{laidCheck}
+use Rattle.checker_host.specs.Laid.{laidCheck}
 use Rattle.checker.specs.declared.CheckResult.{CheckResult}
 use Rattle.checker.specs.declared.CheckResult.the-variants.{Checked}
 use Rattle.checker.proofs.Determined.{checked-as}

@@ -21,7 +21,7 @@ use Rattle.search.specs.declared.SearchResult.the-variants.{Found}
 use Rattle.search.proofs.Determined.{found, no-decoder-any, pair-any}
 use Rattle.layout.specs.Layout.{withFields, fieldAt}
 use Rattle.window_limits.proofs.Limits.{settle-pass}
-use Rattle.search.specs.Laid.{verdictFields, SearchFromHost}
+use Rattle.search_host.specs.Laid.{verdictFields, SearchFromHost}
 use Rattle.theorems.specs.Demands.{NoLater}
 use Rattle.theorems.specs.RoundTrip.{windowRead}
 use Rattle.theorems.proofs.HostReads.{search-found, kind, read-kind, read-file, window-found}

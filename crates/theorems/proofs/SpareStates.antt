@@ -32,7 +32,7 @@ use Rattle.search.specs.declared.Verdict.the-variants.{Least, NoDecoder}
 use Rattle.search.specs.declared.SearchResult.{SearchResult}
 use Rattle.search.specs.declared.SearchResult.the-variants.{Found}
 use Rattle.checker.specs.Check.{checkRefusal, CheckedRight, CheckWith}
-use Rattle.checker.specs.Laid.{laidCheck}
+use Rattle.checker_host.specs.Laid.{laidCheck}
 use Rattle.checker.proofs.Determined as checker
 use Rattle.checker.specs.declared.CheckResult.the-variants as check
 use Rattle.layout.proofs.Hosting.{from-host, same-host, same-host-buffer}

@@ -46,7 +46,7 @@ use Rattle.decoder.specs.Table.{EntryOf, TableWith, TablePromise}
 use Rattle.decoder.specs.declared.WindowResult.{WindowResult}
 use Rattle.decoder.specs.declared.WindowResult as window-result
 use Rattle.search.specs.Search.{IsNoDecoder, FoundVerdict, SearchWith, SearchPromise}
-use Rattle.search.specs.Laid.{verdictFields, SearchFromHost}
+use Rattle.search_host.specs.Laid.{verdictFields, SearchFromHost}
 use Rattle.search.specs.declared.Verdict.{Verdict}
 use Rattle.search.specs.declared.Verdict.the-variants.{Least, NoDecoder}
 use Rattle.search.specs.declared.SearchResult.{SearchResult}

@@ -14,7 +14,6 @@ use Rattle.coder.specs.File.{versionOf, countField, statesOf, inputsOf, outputs
 use Rattle.values.specs.Window.{size}
 use Rattle.values.specs.declared.Window.{Window}
 use Rattle.decoder.specs.Refusal.{tableSize}
-use Rattle.decoder.specs.Places.{places}
 
 -- A number of the list, and whether it applies.
 pub record Rule : Type 0 where
@@ -144,10 +143,10 @@ abbrev pub givenWindow : List ℕ → Window → List ℕ → List Bytes → Lis
 givenWindow f w received others =
     fileRules f ++ windowRules w (numberRule (length received) (size w) ∷ buffersRule others ∷ receivedRule f received ∷ [])
 
--- a string: one byte for each place with a full window
+-- a string of n letters: n − b − a bytes, one for each place with a full window
 abbrev pub givenString : List ℕ → Window → List ℕ → List ℕ → List Bytes → List Rule
 givenString f w received before others =
-    fileRules f ++ windowRules w (buffersRule (lent before (places (length received) w) ∷ others) ∷ receivedRule f received ∷ [])
+    fileRules f ++ windowRules w (buffersRule (lent before (length received - (w .before + w .after)) ∷ others) ∷ receivedRule f received ∷ [])
 
 -- a decoder table
 abbrev pub givenTable : List ℕ → Window → List ℕ → List Bytes → List Rule

@@ -20,7 +20,7 @@ use Rattle.search.specs.declared.SearchResult.the-variants.{Found}
 use Rattle.decoder.specs.Places.{places, StringPromise}
 use Rattle.layout.specs.Layout.{resultBytes, fieldAt}
 use Rattle.running.specs.Laid.{RunFromHost}
-use Rattle.search.specs.Laid.{SearchFromHost}
+use Rattle.search_host.specs.Laid.{SearchFromHost}
 use Rattle.decoder_host.specs.Laid.{StringFromHost}
 
 -- The letters xs can be coded from state s: the file is accepted, the state is reachable (document 02, 5/13, last sentence), and the

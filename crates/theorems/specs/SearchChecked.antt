@@ -11,11 +11,11 @@ use Rattle.values.specs.Pair.{pairOf, loopedPair}
 use Rattle.values.specs.declared.Order.{Order}
 use Rattle.values.specs.declared.LoopedPair.{LoopedPair}
 use Rattle.search.specs.Search.{SearchPromise}
-use Rattle.search.specs.Laid.{SearchFromHost}
+use Rattle.search_host.specs.Laid.{SearchFromHost}
 use Rattle.search.specs.declared.SearchResult.the-variants.{Found}
 use Rattle.search.specs.declared.Verdict.the-variants.{NoDecoder}
 use Rattle.checker.specs.Check.{CheckPromise}
-use Rattle.checker.specs.Laid.{CheckFromHost}
+use Rattle.checker_host.specs.Laid.{CheckFromHost}
 use Rattle.checker.specs.declared.CheckResult.{CheckResult}
 use Rattle.checker.specs.declared.CheckResult.the-variants.{Checked}
 use Rattle.layout.specs.Layout.{fieldAt}

@@ -20,7 +20,7 @@ use Rattle.search.specs.declared.Verdict.the-variants.{Least, NoDecoder}
 use Rattle.search.specs.declared.SearchResult.{SearchResult}
 use Rattle.search.specs.declared.SearchResult.the-variants.{Refused, Found}
 use Rattle.layout.specs.Layout.{fieldAt}
-use Rattle.search.specs.Laid.{SearchFromHost}
+use Rattle.search_host.specs.Laid.{SearchFromHost}
 use Rattle.theorems.specs.RoundTrip.{windowRead}
 use Rattle.theorems.specs.Demands.{NoLater}
 use Rattle.theorems.specs.SameAnswers.{SameAnswers, SameAnswersFromC}

@@ -26,8 +26,8 @@ use Rattle.checker.specs.Check.{checkRefusal, CheckWith, CheckPromise}
 use Rattle.checker.specs.declared.CheckResult.{CheckResult}
 use Rattle.checker.specs.declared.CheckResult.the-variants.{Checked}
 use Rattle.running.specs.Laid.{RunFromHost}
-use Rattle.search.specs.Laid.{SearchFromHost}
-use Rattle.checker.specs.Laid.{CheckFromHost}
+use Rattle.search_host.specs.Laid.{SearchFromHost}
+use Rattle.checker_host.specs.Laid.{CheckFromHost}
 use Rattle.layout.specs.Layout.{fieldAt}
 use Rattle.theorems.specs.SameAnswers.{SameAnswers, SameAnswersFromC}
 

@@ -2,8 +2,8 @@
 ghost use mathlib.Core.Path.{_≡_};
 ghost use Rattle.layout.specs.Host.{LaidOut, Fits};
 ghost use Rattle.values.specs.Pair.{pairOf, loopedPair};
-ghost use Rattle.checker.specs.Laid.{numberOf, laidCheck, CheckFromHost};
-use crate::CheckResult;
+ghost use Rattle.checker_host.specs.Laid.{numberOf, laidCheck, CheckFromHost};
+use checker::CheckResult;
 use layout::inner::put_one;
 use layout::inner::roomy;
 use values::LoopedPair;
@@ -51,6 +51,6 @@ pub fn check(
         lead_out,
         forward_loop,
     };
-    let own = crate::inner::check(file, pair, letters, roomy(result.len()));
+    let own = checker::inner::check(file, pair, letters, roomy(result.len()));
     put(own, result)
 }

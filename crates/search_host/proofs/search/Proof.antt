@@ -1,12 +1,12 @@
--- `host::search` meets its promise: the library's own search, laid out.
+-- `search` meets its promise: the library's own search, laid out.
 use borrow.Author.Needs.{needs}
 use borrow.Author.Tests.{leb-true}
 use Rattle.coder.proofs.Refusals.{via}
 use denote.Ref.{now}
 use Rattle.values.specs.Order.{defaultOrder}
-use Rattle.search.proofs.Hosting.{search-others}
-use Rattle.search.proofs.host.search.Statement.{statement}
-use Rattle.search.proofs.host.search.Tie as tie
+use Rattle.search_host.proofs.Hosting.{search-others}
+use Rattle.search_host.proofs.search.Statement.{statement}
+use Rattle.search_host.proofs.search.Tie as tie
 
 roomy-requires : tie.Need-roomy-requires
 roomy-requires c κs = search needs

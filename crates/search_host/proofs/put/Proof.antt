@@ -1,9 +1,9 @@
--- `host::put` meets its contract: a refusal changes nothing, a verdict goes into its fields.
+-- `put` meets its contract: a refusal changes nothing, a verdict goes into its fields.
 use mathlib.Core.Path.{refl}
 use borrow.Author.Needs.{needs}
 use Rattle.layout.proofs.Hosting.{refused-out}
-use Rattle.search.proofs.host.put.Statement.{statement}
-use Rattle.search.proofs.host.put.Tie as tie
+use Rattle.search_host.proofs.put.Statement.{statement}
+use Rattle.search_host.proofs.put.Tie as tie
 
 enum-known-own : tie.Need-enum-known-own
 enum-known-own c = search needs

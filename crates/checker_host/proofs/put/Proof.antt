@@ -1,9 +1,9 @@
--- `host::put` meets its contract: a refusal changes nothing, the number of a yes or a no goes into field 0.
+-- `put` meets its contract: a refusal changes nothing, the number of a yes or a no goes into field 0.
 use mathlib.Core.Path.{refl}
 use borrow.Author.Needs.{needs}
 use Rattle.layout.proofs.Hosting.{refused-out}
-use Rattle.checker.proofs.host.put.Statement.{statement}
-use Rattle.checker.proofs.host.put.Tie as tie
+use Rattle.checker_host.proofs.put.Statement.{statement}
+use Rattle.checker_host.proofs.put.Tie as tie
 
 enum-known-own : tie.Need-enum-known-own
 enum-known-own c = search needs

@@ -1,7 +1,7 @@
--- `host::put_verdict` meets its contract: the fields of each kind of verdict.
+-- `put_verdict` meets its contract: the fields of each kind of verdict.
 use borrow.Author.Needs.{needs}
-use Rattle.search.proofs.host.put_verdict.Statement.{statement}
-use Rattle.search.proofs.host.put_verdict.Tie as tie
+use Rattle.search_host.proofs.put_verdict.Statement.{statement}
+use Rattle.search_host.proofs.put_verdict.Tie as tie
 
 enum-known-verdict : tie.Need-enum-known-verdict
 enum-known-verdict c = search needs

@@ -4,11 +4,11 @@ ghost use mathlib.Core.Path.{_≡_};
 ghost use lib.ListN.{length};
 ghost use Rattle.layout.specs.Layout.{resultBytes, withFields};
 ghost use Rattle.layout.specs.Host.{LaidOut, Fits};
-ghost use Rattle.search.specs.Laid.{verdictFields, laidSearch, SearchFromHost};
-use crate::SearchResult;
-use crate::Verdict;
+ghost use Rattle.search_host.specs.Laid.{verdictFields, laidSearch, SearchFromHost};
 use layout::inner::put_fields;
 use layout::inner::roomy;
+use search::SearchResult;
+use search::Verdict;
 use values::Order;
 
 // The fields of a verdict.
@@ -55,6 +55,6 @@ fn put(own: SearchResult, result: &mut [u8]) -> usize
 pub fn search(file: &[u8], settle: usize, letters: &mut [u8], result: &mut [u8]) -> usize
     ensures { λ r. ⌜ SearchFromHost (now (file .entry)) settle (now (letters .entry)) (now (result .entry)) r (now (letters .exit)) (now (result .exit)) ⌝ }
 {
-    let own = crate::inner::search(file, Order::DEFAULT, settle, letters, roomy(result.len()));
+    let own = search::inner::search(file, Order::DEFAULT, settle, letters, roomy(result.len()));
     put(own, result)
 }

@@ -1,10 +1,10 @@
--- `host::check` meets its promise: the library's own check, laid out.
+-- `check` meets its promise: the library's own check, laid out.
 use borrow.Author.Needs.{needs}
 use borrow.Author.Tests.{leb-true}
 use Rattle.coder.proofs.Refusals.{via}
-use Rattle.checker.proofs.Hosting.{check-others}
-use Rattle.checker.proofs.host.check.Statement.{statement}
-use Rattle.checker.proofs.host.check.Tie as tie
+use Rattle.checker_host.proofs.Hosting.{check-others}
+use Rattle.checker_host.proofs.check.Statement.{statement}
+use Rattle.checker_host.proofs.check.Tie as tie
 
 roomy-requires : tie.Need-roomy-requires
 roomy-requires c κs = search needs

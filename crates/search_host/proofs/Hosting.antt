@@ -11,11 +11,11 @@ use Rattle.coder.proofs.Refusals.{both-true}
 use Rattle.values.specs.Order.{defaultOrder}
 use Rattle.values.specs.declared.Order.{Order}
 use Rattle.layout.proofs.Hosting.{same-host-buffer}
 use Rattle.search.specs.Search.{wanted, searchRefusalIn, RefusedSearch, FoundVerdict, SearchWith}
-use Rattle.search.specs.Laid.{laidSearch, SearchFromHost}
+use Rattle.search_host.specs.Laid.{laidSearch, SearchFromHost}
 use Rattle.search.specs.declared.SearchResult.{SearchResult}
 use Rattle.search.proofs.Files.{search-accepted}
 use Rattle.search.proofs.Determined.{search-determined}
 
 pub search-others :
     (o : Order) (f : List ℕ) (p : ℕ) (before after : List ℕ) (others : Bool) (r : SearchResult) → SearchWith o f p before others r after →

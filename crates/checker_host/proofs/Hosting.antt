@@ -5,12 +5,12 @@ use mathlib.Core.List.{List}
 use Prim.Native.Nat.{ℕ}
 use Rattle.mealy.specs.LoopedPair.{LoopedPair}
 use Rattle.layout.proofs.Hosting.{not-refused-upon, same-host}
 use Rattle.checker.specs.Check.{checkRefusal, CheckedRight, CheckWith}
-use Rattle.checker.specs.Laid.{laidCheck, CheckFromHost}
+use Rattle.checker_host.specs.Laid.{laidCheck, CheckFromHost}
 use Rattle.checker.specs.declared.CheckResult.{CheckResult}
 use Rattle.checker.specs.declared.CheckResult.the-variants.{Refused}
 use Rattle.checker.proofs.Checking.{check-accepted}
 use Rattle.checker.proofs.Determined.{check-determined}
 
 pub check-others :
     (f : List ℕ) (p : LoopedPair) (others : Bool) (r : CheckResult) → CheckWith f p others r → laidCheck r .returned ≡ 0 → others ≡ true

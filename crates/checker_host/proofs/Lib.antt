@@ -1,0 +1,2 @@
+-- The laws of the checker's call from C.
+pub mod Hosting
