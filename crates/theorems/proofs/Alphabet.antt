@@ -11,9 +11,9 @@ use Rattle.coder.proofs.Refusals.{refuse-not, first-none}
 use Rattle.coder.proofs.Judging.{judges-not, judges-same}
 use Rattle.coder.proofs.Alphabet.{alphabet-judges, letters-few}
 use Rattle.coder.proofs.Accepted.{entries-accepted, coder-accepted}
-use Rattle.theorems.specs.Published.{Rule, asks, firstNumber}
+use Rattle.theorems.specs.Published.{Rule, asks, firstNumber, without}
 use Rattle.theorems.specs.Alphabet.{FifteenLast, WholeAlphabet}
-use Rattle.theorems.proofs.Rules.{without, without-joined, number-other, first-joined}
+use Rattle.theorems.proofs.Rules.{without-joined, number-other, first-joined}
 use Rattle.theorems.proofs.Published.{parts-published}
 
 -- 15 behind a number that is not 15
@@ -21,6 +21,10 @@ fifteen : (a : ℕ) (t : Bool) → (a ≡ 15 → ⊥) → first a (refuse (not t
 fifteen zero true p e = absurd (omega arith)
 fifteen zero false p e = (refl, refl)
 fifteen (suc a) t p e = absurd (p e)
+
+first-fifteen : (a b : ℕ) → (b ≡ 15 → ⊥) → first a b ≡ 15 → a ≡ 15
+first-fifteen zero b p e = absurd (p e)
+first-fifteen (suc a) b p e = e
 
 -- one number of 15 more, behind numbers of which none is 15 and none is 0
 module _ (layout : List Rule) (test : Bool) (numbers : without 0 layout ≡ true) (others : without 15 layout ≡ true) {Named : Type 0}
@@ -34,6 +38,9 @@ module _ (layout : List Rule) (test : Bool) (numbers : without 0 layout ≡ true
   rules-numbers : without 0 rules ≡ true
   rules-numbers = without-joined 0 layout (asks 15 test ∷ []) numbers refl
 
+  joined : (rest : List Rule) → firstNumber (rules ++ rest) ≡ first (firstNumber rules) (firstNumber rest)
+  joined rest = first-joined rules rest rules-numbers
+
   fifteen-last : FifteenLast layout rules Named
   fifteen-last =
       record {
@@ -45,9 +52,12 @@ module _ (layout : List Rule) (test : Bool) (numbers : without 0 layout ≡ true
               let t : test ≡ false = judges-same test false judges (judges-not (r .1)) in
               in-turn ∙ rw (r .0, t) refl,
         );
-        call-refused = λ rest e. first-joined rules rest rules-numbers ∙ rw e refl;
+        call-refused = λ rest no. (
+          (λ e. first-fifteen (firstNumber rules) (firstNumber rest) (number-other 15 rest no (λ z. omega arith)) (sym (joined rest) ∙ e)),
+          λ e. joined rest ∙ rw e refl,
+        );
         call-accepted = λ rest e.
-            let a = first-none (firstNumber rules) (firstNumber rest) (sym (first-joined rules rest rules-numbers) ∙ e) in
+            let a = first-none (firstNumber rules) (firstNumber rest) (sym (joined rest) ∙ e) in
             let b = first-none (firstNumber layout) (refuse (not test) 15 0) (sym in-turn ∙ a .0) in
             judges .yes′ (refuse-not test 15 0 (omega arith) (b .1) .0);
       }

@@ -7,14 +7,9 @@ use lib.Dec.{eqb}
 use borrow.Author.Tests.{eqb-false, not-true}
 use Rattle.coder.specs.Refusal.{refuse, first}
 use Rattle.coder.proofs.Refusals.{both-true, refuse-either}
-use Rattle.theorems.specs.Published.{Rule, asks, firstNumber}
+use Rattle.theorems.specs.Published.{Rule, asks, firstNumber, without}
 
--- no number of a list is this one
-abbrev pub without : ℕ → List Rule → Bool
-without k [] = true
-without k (r ∷ rs) = not (eqb (r .number) k) && without k rs
-
--- it is not the first that applies then
+-- a number that no rule of a list has is not the first that applies
 pub number-other : (k : ℕ) (rs : List Rule) → without k rs ≡ true → (k ≡ 0 → ⊥) → firstNumber rs ≡ k → ⊥
 number-other k [] t z = λ e. z (sym e)
 number-other k (r ∷ rs) t z =

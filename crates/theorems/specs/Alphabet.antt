@@ -1,15 +1,16 @@
 -- Unused output letters (document 02, 7/13), of each coder that a call is given: its rules give 15 exactly where no number from 1 to 6
--- applies and its entries do not name the whole alphabet; a call whose rules begin with them is refused with 15 then, whatever else it is
--- given, and where it is not refused its coder names all letters. Over the published list; that each call is refused as the list says stands
--- in Demands.antt.
+-- applies and its entries do not name the whole alphabet. So is a call refused with 15 that is given this coder first and no other, whatever
+-- else it is given; and a call that is not refused has a coder that names all letters. Over the published list; that each call is refused as
+-- the list says stands in Demands.antt.
 use Prim.Native.Nat.{ℕ, _*_, _≤_}
 use mathlib.Core.Path.{_≡_}
+use mathlib.Core.Bool.{true}
 use mathlib.Core.Logic.{_↔_}
 use mathlib.Core.List.{List, [], _∷_, _++_}
 use Rattle.coder.specs.Alphabet.{NamesAlphabet}
 use Rattle.coder.specs.Accepted.{IsCoder}
 use Rattle.coder.specs.File.{statesOf, inputsOf, outputsOf, machineOf, machineOfEntries}
-use Rattle.theorems.specs.Published.{Rule, firstNumber, layoutRules, fileRules, partsLayoutRules, partsRules}
+use Rattle.theorems.specs.Published.{Rule, firstNumber, without, layoutRules, fileRules, partsLayoutRules, partsRules}
 
 -- The entries of a file, or of counts and entry bytes, name its whole alphabet.
 abbrev pub FileNamed : List ℕ → Type 0
@@ -22,8 +23,8 @@ PartsNamed n i o entries = NamesAlphabet (machineOfEntries n i entries) o
 pub record FifteenLast (layout rules : List Rule) (Named : Type 0) : Type 0 where
   -- they give 15 exactly where none before applies and the entries leave a letter out
   pub refused : firstNumber rules ≡ 15 ↔ ((firstNumber layout ≡ 0) × (Named → ⊥))
-  -- and so is a call refused whose rules begin with them
-  pub call-refused : (rest : List Rule) → firstNumber rules ≡ 15 → firstNumber (rules ++ rest) ≡ 15
+  -- and so does a call whose rules begin with them, and whose other rules do not have this number
+  pub call-refused : (rest : List Rule) → without 15 rest ≡ true → firstNumber (rules ++ rest) ≡ 15 ↔ firstNumber rules ≡ 15
   -- a call that is not refused has a coder that leaves none out
   pub call-accepted : (rest : List Rule) → firstNumber (rules ++ rest) ≡ 0 → Named
 

@@ -29,6 +29,11 @@ abbrev pub firstNumber : List Rule → ℕ
 firstNumber [] = 0
 firstNumber (r ∷ rs) = refuse (r .applies) (r .number) (firstNumber rs)
 
+-- No rule of a list has this number.
+abbrev pub without : ℕ → List Rule → Bool
+without k [] = true
+without k (r ∷ rs) = not (eqb (r .number) k) && without k rs
+
 -- ---- the numbers, each once
 
 -- 1 to 3, of a file
