@@ -1,6 +1,6 @@
 // The checker of looped pairs for a host in C: the library's own call, its result laid into a lent buffer.
 ghost use mathlib.Core.Path.{_≡_};
-ghost use Rattle.layout.specs.Host.{LaidOut, Fits};
+ghost use Rattle.layout.specs.Host.{LaidOut, HasRoom};
 ghost use Rattle.values.specs.Pair.{pairOf, loopedPair};
 ghost use Rattle.checker_host.specs.Laid.{numberOf, laidCheck, CheckFromHost};
 use checker::CheckResult;
@@ -17,7 +17,7 @@ fn number(b: bool) -> usize
 
 // The fields of a result: what is returned for it.
 fn put(own: CheckResult, result: &mut [u8]) -> usize
-    requires { ⌜ Fits (laidCheck own) (now result) ⌝ }
+    requires { ⌜ HasRoom (laidCheck own) (now result) ⌝ }
     ensures { λ r. ⌜ LaidOut (laidCheck own) (now (result .entry)) r (now (result .exit)) ⌝ }
 {
     match own {

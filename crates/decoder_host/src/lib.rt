@@ -1,5 +1,5 @@
 // The decoder for a host in C: the library's own calls, each result laid into one more lent buffer.
-ghost use Rattle.layout.specs.Host.{LaidOut, Fits};
+ghost use Rattle.layout.specs.Host.{LaidOut, HasRoom};
 ghost use Rattle.values.specs.Window.{window as windowOf};
 ghost use Rattle.decoder_host.specs.Laid.{laidWindow, WindowFromHost, StringFromHost, TableFromHost};
 use coder::inner::bytes::number;
@@ -13,7 +13,7 @@ use values::Window;
 
 // The fields of a window's result: what is returned for it.
 fn put(own: WindowResult, result: &mut [u8]) -> usize
-    requires { ⌜ Fits (laidWindow own) (now result) ⌝ }
+    requires { ⌜ HasRoom (laidWindow own) (now result) ⌝ }
     ensures { λ r. ⌜ LaidOut (laidWindow own) (now (result .entry)) r (now (result .exit)) ⌝ }
 {
     match own {

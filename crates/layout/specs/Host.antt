@@ -36,8 +36,8 @@ pub record LaidOut (l : Laid) (result : List ℕ) (r : ℕ) (result′ : List �
   pub fields : result′ ≡ withFields result (l .fields)
 
 -- what is asked for that: unless it is a refusal, the buffer is long enough
-abbrev pub Fits : Laid → List ℕ → Type 0
-Fits l result = l .returned ≡ 0 → resultBytes ≤ length result
+abbrev pub HasRoom : Laid → List ℕ → Type 0
+HasRoom l result = l .returned ≡ 0 → resultBytes ≤ length result
 
 -- A result that the library's own call promises, laid out.
 pub record Handed {R : Type 0} (Promise : R → Type 0) (laid : R → Laid) (result : List ℕ) (r : ℕ) (result′ : List ℕ) : Type 0 where

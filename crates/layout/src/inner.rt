@@ -7,7 +7,7 @@ ghost use lib.Dec.{leb};
 ghost use lib.ListN.{length};
 ghost use lib.Seq.{sets};
 ghost use Rattle.layout.specs.Layout.{resultBytes, field, withFields};
-ghost use Rattle.layout.specs.Host.{laidCount, LaidOut, Fits};
+ghost use Rattle.layout.specs.Host.{laidCount, LaidOut, HasRoom};
 use values::CountResult;
 
 // The bytes of the result buffer that each call from C wants.
@@ -70,7 +70,7 @@ pub fn put_two(result: &mut [u8], x: usize, y: usize)
 
 // A number of bytes, or a refusal: what is returned for it.
 pub fn put_count(own: CountResult, result: &mut [u8]) -> usize
-    requires { ⌜ Fits (laidCount own) (now result) ⌝ }
+    requires { ⌜ HasRoom (laidCount own) (now result) ⌝ }
     ensures { λ r. ⌜ LaidOut (laidCount own) (now (result .entry)) r (now (result .exit)) ⌝ }
 {
     match own {

@@ -1,5 +1,5 @@
 // The coder run for a host in C: the library's own call, its result laid into one more lent buffer.
-ghost use Rattle.layout.specs.Host.{LaidOut, Fits};
+ghost use Rattle.layout.specs.Host.{LaidOut, HasRoom};
 ghost use Rattle.running.specs.Laid.{laidRun, RunFromHost};
 use crate::RunResult;
 use layout::inner::put_two;
@@ -7,7 +7,7 @@ use layout::inner::roomy;
 
 // The fields of a result: what is returned for it.
 fn put(own: RunResult, result: &mut [u8]) -> usize
-    requires { ⌜ Fits (laidRun own) (now result) ⌝ }
+    requires { ⌜ HasRoom (laidRun own) (now result) ⌝ }
     ensures { λ r. ⌜ LaidOut (laidRun own) (now (result .entry)) r (now (result .exit)) ⌝ }
 {
     match own {

@@ -3,7 +3,7 @@ ghost use Prim.Native.Nat.{_≤_};
 ghost use mathlib.Core.Path.{_≡_};
 ghost use lib.ListN.{length};
 ghost use Rattle.layout.specs.Layout.{resultBytes, withFields};
-ghost use Rattle.layout.specs.Host.{LaidOut, Fits};
+ghost use Rattle.layout.specs.Host.{LaidOut, HasRoom};
 ghost use Rattle.search_host.specs.Laid.{verdictFields, laidSearch, SearchFromHost};
 use layout::inner::put_fields;
 use layout::inner::roomy;
@@ -38,7 +38,7 @@ fn put_verdict(result: &mut [u8], verdict: Verdict)
 
 // The fields of a result: what is returned for it.
 fn put(own: SearchResult, result: &mut [u8]) -> usize
-    requires { ⌜ Fits (laidSearch own) (now result) ⌝ }
+    requires { ⌜ HasRoom (laidSearch own) (now result) ⌝ }
     ensures { λ r. ⌜ LaidOut (laidSearch own) (now (result .entry)) r (now (result .exit)) ⌝ }
 {
     match own {

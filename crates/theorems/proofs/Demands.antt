@@ -2,7 +2,7 @@
 use mathlib.Core.Path.{_≡_, refl, sym, ap, subst, _∙_}
 use mathlib.Core.Bool.{Bool, true}
 use mathlib.Core.List.{List, [], _++_}
-use Prim.Native.Nat.{ℕ, zero, suc, _+_, _<_}
+use Prim.Native.Nat.{ℕ, zero, suc, _+_, _<_, _≤_}
 use native.Mathlib.Omega.{arith}
 use lib.ListN.{length, getD, take, drop, length-drop}
 use lib.Seq.{take-at, length-take-le}
@@ -14,6 +14,8 @@ use Rattle.mealy.specs.Answer.{Answers, byteOf}
 use Rattle.mealy.specs.Index.{windowAt}
 use Rattle.mealy.proofs.Answers.{length-outs, answer-unique, none↔no-run}
 use Rattle.mealy.proofs.Indices.{length-window}
+use Rattle.mealy.proofs.Letters.{letter-at}
+use Rattle.coder.proofs.Accepted.{accepted}
 use Rattle.coder.specs.Refusal.{upon, answer}
 use Rattle.coder.specs.File.{entriesOf, fileOf, fileRefusal, outputsOf, machineOf}
 use Rattle.coder.proofs.Refusals.{both-right}
@@ -32,8 +34,11 @@ use Rattle.decoder.specs.Written.{Written}
 use Rattle.decoder.specs.Count.{CountPromise}
 use Rattle.decoder.specs.Refusal.{windowRefusal, stringRefusal, tableSize, tableRefusal}
 use Rattle.decoder.specs.Places.{places}
-use Rattle.decoder.specs.Window.{windowSetting, AnsweredRight, WindowPromise}
+use Rattle.decoder.specs.Window.{windowSetting, AnsweredRight, WindowWith, WindowPromise}
+use Rattle.decoder.specs.declared.WindowResult.{WindowResult}
 use Rattle.decoder.specs.declared.WindowResult as window-result
+use Rattle.decoder_host.specs.Laid.{laidWindow, WindowFromHost}
+use Rattle.decoder_host.proofs.Hosting.{window-enough}
 use Rattle.decoder.proofs.Accepting.{window-accepted}
 use Rattle.search.specs.Search.{searchRefusalIn, SaysOf, RefusedSearch, SearchPromise}
 use Rattle.search.specs.declared.SearchResult.{SearchResult}
@@ -44,13 +49,14 @@ use Rattle.search.specs.declared.Verdict.the-variants.{Least, NoDecoder}
 use Rattle.search.proofs.Determined.{found, no-decoder-exactly}
 use Rattle.checker.specs.Check.{checkRefusal}
 use Rattle.writer.specs.Write.{writeRefusalIn}
-use Rattle.layout.specs.Host.{roomy, Handed}
-use Rattle.layout.proofs.Hosting.{no-fields, from-host}
+use Rattle.layout.specs.Layout.{fieldAt}
+use Rattle.layout.specs.Host.{roomy, LaidOut, Handed}
+use Rattle.layout.proofs.Hosting.{no-fields, from-host, answered-host}
 use Rattle.theorems.specs.Published.{longEnough}
 use Rattle.theorems.specs.Demands.{Demand1, Said, byteSaid, SaidByte, Demand2, Demand3, NoLater, Demanded, FromC}
 use Rattle.theorems.proofs.Published.{file-published, run-published, search-published, check-published, window-published, string-published, table-published, write-published}
 use Rattle.theorems.proofs.Counted.{counted}
-use Rattle.theorems.proofs.HostReads.{search-found}
+use Rattle.theorems.proofs.HostReads.{first-read, search-found}
 use Rattle.theorems.proofs.RoundTrip.{round-trip}
 use Rattle.theorems.proofs.HostRoundTrip.{host-round-trip}
 
@@ -151,6 +157,22 @@ window-answered f w received v = go (windowRefusal f w received true) refl
         (e, rw q (p .right))
     go (suc k) e p = let z : _≡_ {A = ℕ} 0 1 = cc in absurd (omega arith)
 
+bytes-said : (x : theory.Answer) → byteOf x ≡ byteSaid x
+bytes-said (theory.letter x) = refl
+bytes-said theory.none = refl
+bytes-said theory.several = refl
+
+inputs-few : (f : List ℕ) → fileRefusal f ≡ 0 → machineOf f .inputs ≤ 16
+unfolding machineOf
+inputs-few f z = accepted f z .entries .limits .inputs-high
+
+-- the byte of a right answer is a byte, where letters are below 16
+byte-small : (S : Setting) (w : List ℕ) (b : ℕ) → S .M .inputs ≤ 16 → (v : theory.Answer) → Answers S w b v → byteOf v < 256
+byte-small S w b l (theory.letter x) h =
+    omega (arith, letter-at (S .M .inputs) (h .fits .xs) (h .fits .letters) b (h .fits .inside), h .fits .letter)
+byte-small S w b l theory.none h = omega arith
+byte-small S w b l theory.several h = omega arith
+
 -- a right answer is what the second sentence says
 said : (S : Setting) (w : List ℕ) (b : ℕ) → b < length w → (v : theory.Answer) → Answers S w b v → Said S w b v
 said S w b l v h =
@@ -163,12 +185,37 @@ said S w b l v h =
     }
 
 said-byte : (S : Setting) (w : List ℕ) (b v : ℕ) → b < length w → RightByte S w b v → SaidByte S w b v
-said-byte S w b v l r = record { answer = r .answer; said = said S w b l (r .answer) (r .right); byte = r .byte ∙ bytes (r .answer) }
+said-byte S w b v l r = record { answer = r .answer; said = said S w b l (r .answer) (r .right); byte = r .byte ∙ bytes-said (r .answer) }
+
+-- from C
+window-read :
+    (f : List ℕ) (w : Window) (received result result′ : List ℕ) → WindowFromHost f w received result 0 result′ →
+    SaidByte (windowSetting f w) received (w .before) (fieldAt result′ 0)
+window-read f w received result result′ h =
+    let g =
+    answered-host (WindowWith f w received) laidWindow (λ others own. window-enough f w received others own) refl h in
+    go (g .own) (windowRefusal f w received true) (g .promised) (g .promised) (g .out)
   where
-    bytes : (x : theory.Answer) → byteOf x ≡ byteSaid x
-    bytes (theory.letter x) = refl
-    bytes theory.none = refl
-    bytes theory.several = refl
+    go :
+        (own : WindowResult) (k : ℕ) → upon k (λ j. own ≡ window-result.the-variants.Refused j) (AnsweredRight f w received own) →
+        WindowPromise f w received own → LaidOut (laidWindow own) result 0 result′ →
+        SaidByte (windowSetting f w) received (w .before) (fieldAt result′ 0)
+    go (window-result.the-variants.Answered v) k q p out =
+        let a = window-answered f w received v p in
+        let c = window-accepted f w received true (a .0) in
+        let small = byte-small (windowSetting f w) received (w .before) (inputs-few f (c .limits .file)) (meaning v) (a .1) in
+        let read = first-read result (laidWindow (window-result.the-variants.Answered v)) (byteOf (meaning v)) [] refl (omega arith) out in
+        let long = c .long in
+        record {
+          answer = meaning v;
+          said = said (windowSetting f w) received (w .before) (omega arith) (meaning v) (a .1);
+          byte = read .1 ∙ bytes-said (meaning v);
+        }
+    go (window-result.the-variants.Refused j) zero q p out = let d = q .is in let z : _≡_ {A = ℕ} 0 1 = cc in absurd (omega arith)
+    go (window-result.the-variants.Refused j) (suc k) q p out =
+        let e = out .number in
+        let z : j ≡ suc k = cc in
+        absurd (omega arith)
 
 pub demand-2 : Demand2
 demand-2 = record {
@@ -194,6 +241,7 @@ demand-2 = record {
             let long = length-window (outputsOf f) (size w) k in
             said-byte (windowSetting f w) part (w .before) (getD after k 0) (omega arith) (c .each k l),
       );
+  window-from-C = window-read;
   back = round-trip;
   back-from-C = host-round-trip;
 }

@@ -15,4 +15,5 @@ outcomes-exist =
       string = string-exists;
       table = table-exists;
       write = λ n i o entries before others. (_, _, record { result = refl; bytes = refl });
+      from-C = λ Promise laid result own p. (_, _, record { own = own; promised = p; out = record { number = refl; fields = refl } });
     }

@@ -37,6 +37,12 @@ pub first-read :
 first-read result l n ns d small out =
     (out .number ∙ ap (λ (x : Laid). x .returned) d, rw (out .fields, d) (field-at result (n ∷ ns) 0 (omega arith) small))
 
+-- field 1
+pub second-read :
+    (result : List ℕ) (l : Laid) (n m : ℕ) (ns : List ℕ) {r : ℕ} {result′ : List ℕ} → l ≡ done (n ∷ m ∷ ns) → FieldHolds m →
+    LaidOut l result r result′ → fieldAt result′ 1 ≡ m
+second-read result l n m ns d small out = rw (out .fields, d) (field-at result (n ∷ m ∷ ns) 1 (omega arith) small)
+
 -- ---- a search that returned 0
 
 -- its verdict is one that the library's own search in the default order promises, and lies in the fields

@@ -8,9 +8,10 @@ use native.Mathlib.Omega.{arith}
 use lib.ListN.{length, take, drop}
 use lib.Seq.{take-at}
 use borrow.Author.Tests.{lt-ltb, le-leb}
-use Rattle.mealy.specs.Machine.{Machine, outs, Letters}
+use Rattle.mealy.specs.Machine.{Machine, outs, end, Letters}
 use Rattle.mealy.specs.Product.{pairs}
 use Rattle.mealy.proofs.Answers.{length-outs}
+use Rattle.mealy.proofs.ReachableStates.{reachable-along}
 use Rattle.coder.specs.Limits.{maxSide, maxSettle}
 use Rattle.coder.specs.Refusal.{lettersBelow}
 use Rattle.coder.specs.File.{statesOf, inputsOf, outputsOf, machineOf}
@@ -49,6 +50,12 @@ states-are f = refl
 module _ (f : List ℕ) (s : ℕ) (xs : List ℕ) (coded : Coded f s xs) where
   start-low : s < statesOf f
   start-low = rw (states-are f) at (file-bounded f (accepted f (coded .file)) s (coded .start))
+
+  pub end-low : end (machineOf f) s xs < statesOf f
+  unfolding machineOf
+  end-low =
+      file-bounded f (accepted f (coded .file)) (end (machineOf f) s xs)
+      (reachable-along (machineOf f) s xs (coded .start) (coded .letters))
 
   pub not-refused : (before : List ℕ) → length xs ≤ length before → runRefusalIn f s xs (length before) true ≡ 0
   unfolding runRefusal

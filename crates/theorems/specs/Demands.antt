@@ -56,7 +56,8 @@ use Rattle.checker.specs.declared.CheckResult.{CheckResult}
 use Rattle.checker.specs.declared.CheckResult as check-result
 use Rattle.placing.specs.Placed.{withFront}
 use Rattle.writer.specs.Write.{WriteWith}
-use Rattle.layout.specs.Layout.{withFields}
+use Rattle.decoder_host.specs.Laid.{WindowFromHost}
+use Rattle.layout.specs.Layout.{withFields, fieldAt}
 use Rattle.layout.specs.Host.{Laid, refused, LaidOut, Handed, FromHost}
 use Rattle.theorems.specs.Published.{Rule, firstNumber, Bytes, longEnough, fileRules, givenRun, givenSearch, givenCheck, givenWindow, givenString, givenTable, givenWrite, resultGiven}
 use Rattle.theorems.specs.RoundTrip.{LettersComeBack, LettersComeBackFromC}
@@ -160,6 +161,10 @@ pub record Demand2 : Type 0 where
       TablePromise f w before (count-result.the-variants.Done n) after →
       (n ≡ tableSize (outputsOf f) w) ×
       ((k : ℕ) → k < n → SaidByte (windowSetting f w) (windowAt (outputsOf f) (size w) k) (w .before) (getD after k 0))
+  -- of one window from C: the call returned 0, and the host reads the byte from field 0
+  pub window-from-C :
+      (f : List ℕ) (w : Window) (received result result′ : List ℕ) → WindowFromHost f w received result 0 result′ →
+      SaidByte (windowSetting f w) received (w .before) (fieldAt result′ 0)
   -- third sentence, for runs from a reachable state (document 02, 5/13), at the places that have the letters of the settle count ahead of the
   -- window (6/13)
   pub back : LettersComeBack

@@ -18,8 +18,9 @@ use Rattle.decoder.specs.Places.{StringWith}
 use Rattle.decoder.specs.Table.{TableWith}
 use Rattle.decoder.specs.declared.WindowResult.{WindowResult}
 use Rattle.writer.specs.Write.{WriteWith}
+use Rattle.layout.specs.Host.{roomy, Laid, FromHost}
 
-pub record OutcomesExist : Type 0 where
+pub record OutcomesExist : Type 1 where
   pub run :
       (f : List ℕ) (s : ℕ) (xs before : List ℕ) (others : Bool) → (r : RunResult) × (after : List ℕ) × RunWith f s xs before others r after
   pub search :
@@ -36,3 +37,7 @@ pub record OutcomesExist : Type 0 where
   pub write :
       (n i o : ℕ) (entries before : List ℕ) (others : Bool) →
       (r : CountResult) × (after : List ℕ) × WriteWith n i o entries before others r after
+  -- from C, of every call: an outcome of the own call that has the result buffer besides can be laid out
+  pub from-C :
+      {R : Type 0} (Promise : Bool → R → Type 0) (laid : R → Laid) (result : List ℕ) (own : R) → Promise (roomy result) own →
+      (r : ℕ) × (result′ : List ℕ) × FromHost Promise laid result r result′

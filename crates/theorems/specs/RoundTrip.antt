@@ -56,10 +56,11 @@ LettersComeBack =
 -- ---- for a host in C
 
 -- The same with what the host reads from the result buffers of run and decoder: both calls return 0, and the fields say how many
--- letters were sent and decoded.
-pub record HostRoundTrip (xs : List ℕ) (w : Window) (r₁ : ℕ) (result₁ : List ℕ) (r₃ : ℕ) (result₃ decoded : List ℕ) : Type 0 where
+-- letters were sent and decoded, and in which state the run ended.
+pub record HostRoundTrip (f : List ℕ) (s : ℕ) (xs : List ℕ) (w : Window) (r₁ : ℕ) (result₁ : List ℕ) (r₃ : ℕ) (result₃ decoded : List ℕ) : Type 0 where
   pub ran : r₁ ≡ 0
   pub sent : fieldAt result₁ 0 ≡ length xs
+  pub ended : fieldAt result₁ 1 ≡ end (machineOf f) s xs
   pub done : r₃ ≡ 0
   pub counted : fieldAt result₃ 0 ≡ places (length xs) w
   pub back : Back xs w decoded
@@ -83,4 +84,4 @@ LettersComeBackFromC =
     (before₃ result₃ : List ℕ) (r₃ : ℕ) (after₃ result₃′ : List ℕ) →
     places (length xs) (windowRead result₂′ p) ≤ length before₃ → resultBytes ≤ length result₃ →
     StringFromHost f (windowRead result₂′ p) (take (fieldAt result₁′ 0) after₁) before₃ result₃ r₃ after₃ result₃′ →
-    HostRoundTrip xs (windowRead result₂′ p) r₁ result₁′ r₃ result₃′ after₃
+    HostRoundTrip f s xs (windowRead result₂′ p) r₁ result₁′ r₃ result₃′ after₃
