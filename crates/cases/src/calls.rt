@@ -9,9 +9,9 @@ use values::Order;
 use values::Window;
 
 fn counts(file: &[u8]) -> Got {
-    match coder::counts(file) {
-        coder::Header::Refused(k) => got::short(got::REFUSED, k, 0, 0),
-        coder::Header::Counts {
+    match reader::counts(file) {
+        reader::Header::Refused(k) => got::short(got::REFUSED, k, 0, 0),
+        reader::Header::Counts {
             states,
             inputs,
             outputs,

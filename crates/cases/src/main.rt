@@ -95,7 +95,7 @@ fn make(
     let lent = &mut buffer[0..n];
     let g = calls::make(q, file, input, lent);
     if q.call == asking::ENTRIES {
-        return holds(number, line, at, g, coder::entries(file));
+        return holds(number, line, at, g, reader::entries(file));
     }
     holds(number, line, at, g, lent)
 }

@@ -22,7 +22,7 @@ use Rattle.coder.specs.Refusal.{Judges}
 use Rattle.setting.specs.Words.{WordsOf}
 use Rattle.setting.proofs.Same.{coder-sound, same-setting}
 use Rattle.checker.specs.Check.{checkRefusal, CheckedRight}
-use Rattle.checker.specs.Follow.{CheckOf}
+use Rattle.valid_pair.specs.Follow.{CheckOf}
 use Rattle.checker.specs.declared.CheckResult.the-variants.{Checked}
 use Rattle.coder.proofs.Judging.{judges-map}
 

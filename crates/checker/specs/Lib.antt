@@ -1,3 +1,2 @@
 -- What the contracts of the pair checker cite.
 pub mod Check
-pub mod Follow

@@ -11,7 +11,6 @@ use coder::inner::tables::Coder;
 use values::LoopedPair;
 
 pub mod refusal; // refusal.rt: the refusal of a check
-pub mod follow; // follow.rt: the two runs of a pair on the tables
 
 // Whether a pair that is not refused is valid.
 fn checked(file: &[u8], pair: LoopedPair, letters: &[u8]) -> bool
@@ -21,7 +20,7 @@ fn checked(file: &[u8], pair: LoopedPair, letters: &[u8]) -> bool
     let c = Coder::from_checked(file);
     let starts = starts::inner::start_states(c, 0);
     let conflicts = setting::inner::different_letters();
-    follow::valid(&c.next, &c.output, starts, &conflicts, pair, letters)
+    valid_pair::inner::follow::valid(&c.next, &c.output, starts, &conflicts, pair, letters)
 }
 
 // Whether a pair is valid, where `others` says whether all lent buffers are long enough.

@@ -9,4 +9,3 @@ pub mod BigEndian
 pub mod Inverse
 pub mod Fill
 pub mod Tables
-pub mod Determined

@@ -7,12 +7,10 @@ use lib.ListN.{length, getD, drop}
 use lib.Dec.{ltb, leb, eqb}
 use Rattle.mealy.specs.Machine.{Machine}
 use Rattle.mealy.specs.Setting.{Setting, fromReachable, afterLetters}
-use Rattle.coder.specs.Refusal.{refuse, answer, allBelow}
+use Rattle.coder.specs.Refusal.{refuse, allBelow}
 use Rattle.coder.specs.Limits.{maxStates, maxInputs, maxOutputs}
 use Rattle.coder.specs.Alphabet.{letterOf, allNamed}
 use Rattle.coder.specs.BigEndian.{bigEndian, fromBigEndian}
-use Rattle.coder.specs.declared.Header.{Header}
-use Rattle.coder.specs.declared.Header.the-variants.{Refused, Counts}
 
 -- Byte 0, bytes 1 and 2, bytes 3 to 5, and the bytes from byte 6 on.
 abbrev pub versionOf : List ℕ → ℕ
@@ -67,21 +65,6 @@ fileRefusal f =
     (refuse (not (eqb (versionOf f) 1)) 2
     (refuse (not (eqb (countField f) (length f - 3))) 3
     (entriesRefusal (statesOf f) (inputsOf f) (outputsOf f) (entriesOf f))))
-
--- The reader's first call: the counts, or the refusal.
-abbrev pub headerOf : List ℕ → Header
-headerOf f = answer (fileRefusal f) (λ k. Refused k) (Counts (statesOf f) (inputsOf f) (outputsOf f))
-
--- The reader's second call: the entries, or an empty part.
-abbrev pub partOf : List ℕ → List ℕ
-partOf f = answer (fileRefusal f) (λ k. []) (entriesOf f)
-
--- What that call hands back: those bytes, as a part of the caller's file. A place is a block of memory and an offset in it; the entries
--- begin 6 bytes past the file's own place.
-pub record EntriesPart (f : List ℕ) (file : ℕ × ℕ) (part : List ℕ) (place : ℕ × ℕ) : Type 0 where
-  pub bytes : part ≡ partOf f
-  pub block : place .0 ≡ file .0
-  pub offset : place .1 ≡ file .1 + answer (fileRefusal f) (λ k. 0) 6
 
 -- A byte of the entry of state s and input letter x, of N states and I input letters. The entries of one state stand together, in the order
 -- of the input letters: offset 0 has the next state, offset 1 the output letter. 0 where there is no such entry.

@@ -18,9 +18,10 @@ use Rattle.fitting.proofs.Answers.{right-byte-unique}
 use Rattle.values.specs.Window.{size}
 use Rattle.values.specs.declared.Window.{Window}
 use Rattle.values.specs.declared.CountResult.{CountResult}
+use Rattle.decoder_refusal.specs.Refusal.{places, stringRefusalIn}
 use Rattle.decoder.specs.Written.{Written}
 use Rattle.decoder.specs.Window.{windowSetting}
-use Rattle.decoder.specs.Places.{places, ByteAt, stringRefusalIn, StringPromise}
+use Rattle.decoder.specs.Places.{ByteAt, StringPromise}
 
 pub string-comes-back :
     (f : List ℕ) (w : Window) (s : ℕ) (xs before : List ℕ) (r : CountResult) (after : List ℕ) →

@@ -28,9 +28,9 @@ use Rattle.filling.specs.Window.{decoded}
 use Rattle.filling.proofs.Window.{decoded-right}
 use Rattle.values.specs.Window.{size}
 use Rattle.values.specs.declared.Window.{Window}
+use Rattle.decoder_refusal.specs.Refusal.{tableSize, places}
 use Rattle.decoder.specs.Written.{Written}
-use Rattle.decoder.specs.Refusal.{tableSize}
-use Rattle.decoder.specs.Places.{places, ByteAt, PlacesDecoded}
+use Rattle.decoder.specs.Places.{ByteAt, PlacesDecoded}
 use Rattle.decoder.specs.Table.{EntryOf}
 use Rattle.decoder.proofs.Writing.{written-map, written-bytes}
 

@@ -20,15 +20,16 @@ use Rattle.coder.specs.Refusal.{upon}
 use Rattle.values.specs.Window.{size}
 use Rattle.values.specs.declared.Window.{Window}
 use Rattle.values.specs.declared.CountResult as count
+use Rattle.decoder_refusal.specs.Refusal.{windowRefusal, stringRefusalIn, tableRefusalIn}
 use Rattle.decoder.specs.Written.{Written}
 use Rattle.decoder.specs.Count.{CountPromise}
-use Rattle.decoder.specs.Refusal.{windowRefusal}
 use Rattle.decoder.specs.Window.{windowSetting, AnsweredRight, WindowWith}
-use Rattle.decoder.specs.Places.{stringRefusalIn, StringWith}
-use Rattle.decoder.specs.Table.{tableRefusalIn, TableWith}
+use Rattle.decoder.specs.Places.{StringWith}
+use Rattle.decoder.specs.Table.{TableWith}
 use Rattle.decoder.specs.declared.WindowResult.{WindowResult}
 use Rattle.decoder.specs.declared.WindowResult.the-variants.{Refused, Answered}
-use Rattle.decoder.proofs.Accepting.{window-accepted, string-accepted, string-asked, table-accepted, table-asked}
+use Rattle.decoder_refusal.proofs.Accepting.{window-accepted, string-accepted, table-accepted}
+use Rattle.decoder.proofs.Asking.{string-asked, table-asked}
 use Rattle.decoder.proofs.Writing.{written-front, written-unique}
 use Rattle.decoder.proofs.Decoding.{startsOf, file-right}
 

@@ -1,5 +1,5 @@
 -- Laws of the decoder's calls.
-pub mod Accepting
+pub mod Asking
 pub mod Writing
 pub mod Counting
 pub mod Decoding

@@ -1,7 +1,6 @@
 -- What the contracts of the decoder cite.
 pub mod Written
 pub mod Count
-pub mod Refusal
 pub mod Window
 pub mod Places
 pub mod Table

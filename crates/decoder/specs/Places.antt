@@ -14,24 +14,15 @@ use Rattle.values.specs.declared.CountResult.{CountResult}
 use Rattle.fitting.specs.Answer.{RightByte}
 use Rattle.setting.specs.Words.{fromWord}
 use Rattle.fitting.specs.Tables.{TablesOf, Tables}
+use Rattle.decoder_refusal.specs.Refusal.{stringRefusal, places, stringRefusalIn}
 use Rattle.decoder.specs.Written.{Written}
 use Rattle.decoder.specs.Count.{CountPromise, CountGiven}
-use Rattle.decoder.specs.Refusal.{stringRefusal}
 use Rattle.decoder.specs.Window.{windowSetting}
-
--- How many places of n received letters have a full window: n − b − a, none where n is below b + 1 + a ("Decoding", the
--- sentence on strings).
-abbrev pub places : ℕ → Window → ℕ
-places n w = n - (w .before + w .after)
 
 -- v is the right byte for the part of the received letters that starts at place k and has as many letters as the window: that part
 -- alone, whatever stands ahead of it. Its present letter is at place k + b.
 abbrev pub ByteAt : List ℕ → List ℕ → Window → ℕ → ℕ → Type 0
 ByteAt f received w k v = RightByte (windowSetting f w) (take (size w) (drop k received)) (w .before) v
-
--- the refusal where the lent buffer for the letters has `room` bytes; `others` says whether the other lent buffers are long enough
-abbrev pub stringRefusalIn : List ℕ → Window → List ℕ → ℕ → Bool → ℕ
-stringRefusalIn f w received room others = stringRefusal f w received (leb (places (length received) w) room && others)
 
 -- The first refusal that applies, or a right byte for each place with a full window.
 abbrev pub StringWith : List ℕ → Window → List ℕ → List ℕ → Bool → CountResult → List ℕ → Type 0

@@ -10,17 +10,13 @@ use Rattle.values.specs.Window.{size}
 use Rattle.values.specs.declared.Window.{Window}
 use Rattle.values.specs.declared.CountResult.{CountResult}
 use Rattle.filling.specs.Table.{EntryAt}
+use Rattle.decoder_refusal.specs.Refusal.{tableSize, tableRefusal, tableRefusalIn}
 use Rattle.decoder.specs.Count.{CountPromise, CountGiven}
-use Rattle.decoder.specs.Refusal.{tableSize, tableRefusal}
 use Rattle.decoder.specs.Window.{windowSetting}
 
 -- v is the right byte for the window with index k, in the table of a file and a window
 abbrev pub EntryOf : List ℕ → Window → ℕ → ℕ → Type 0
 EntryOf f w k v = EntryAt (windowSetting f w) (outputsOf f) (size w) (w .before) k v
-
--- the refusal where the lent buffer for the table has `room` bytes; `others` says whether the other lent buffers are long enough
-abbrev pub tableRefusalIn : List ℕ → Window → ℕ → Bool → ℕ
-tableRefusalIn f w room others = tableRefusal f w (leb (tableSize (outputsOf f) w) room && others)
 
 -- The first refusal that applies, or a right byte at each index.
 abbrev pub TableWith : List ℕ → Window → List ℕ → Bool → CountResult → List ℕ → Type 0

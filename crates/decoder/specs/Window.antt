@@ -9,7 +9,7 @@ use Rattle.coder.specs.Refusal.{upon}
 use Rattle.values.specs.declared.Window.{Window}
 use Rattle.fitting.specs.Answer.{Right}
 use Rattle.fitting.specs.declared.Answer.{Answer}
-use Rattle.decoder.specs.Refusal.{windowRefusal}
+use Rattle.decoder_refusal.specs.Refusal.{windowRefusal}
 use Rattle.decoder.specs.declared.WindowResult.{WindowResult}
 use Rattle.decoder.specs.declared.WindowResult.the-variants.{Refused, Answered}
 

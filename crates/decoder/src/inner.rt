@@ -1,6 +1,4 @@
 // No public calls: what the library's own crates call on checked bytes and on tables. Some of these have a `requires`.
-pub mod refusal; // refusal.rt: the refusals of the three calls
 pub mod checked; // checked.rt: the three calls once they are known not to be refused
-pub mod sizes; // sizes.rt: the letters of a window, and the places of a string
 pub mod places; // places.rt: a string, place by place
 pub mod calls; // calls.rt: the three calls, where other buffers may be lent besides their own

@@ -9,13 +9,13 @@ use Rattle.values.specs.declared.CountResult.{CountResult}
 use Rattle.values.specs.declared.CountResult.the-variants as count
 use Rattle.layout.specs.Host.{laidCount}
 use Rattle.layout.proofs.Hosting.{not-refused, not-refused-upon, same-host, same-host-buffer}
-use Rattle.decoder.specs.Refusal.{windowRefusal}
+use Rattle.decoder_refusal.specs.Refusal.{windowRefusal, stringRefusalIn, tableRefusalIn}
 use Rattle.decoder.specs.Window.{AnsweredRight, WindowWith}
-use Rattle.decoder.specs.Places.{stringRefusalIn, StringWith}
-use Rattle.decoder.specs.Table.{tableRefusalIn, TableWith}
+use Rattle.decoder.specs.Places.{StringWith}
+use Rattle.decoder.specs.Table.{TableWith}
 use Rattle.decoder.specs.declared.WindowResult.{WindowResult}
 use Rattle.decoder.specs.declared.WindowResult.the-variants.{Refused}
-use Rattle.decoder.proofs.Accepting.{window-accepted, string-others, table-others}
+use Rattle.decoder_refusal.proofs.Accepting.{window-accepted, string-others, table-others}
 use Rattle.decoder.proofs.Determined.{window-determined, string-determined, table-determined}
 use Rattle.decoder_host.specs.Laid.{laidWindow, WindowFromHost, StringFromHost, TableFromHost}
 

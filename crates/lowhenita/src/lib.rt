@@ -2,11 +2,11 @@
 // work, and has that function's promise.
 ghost use Rattle.values.specs.Window.{window};
 ghost use Rattle.values.specs.Pair.{pairOf, loopedPair};
-ghost use Rattle.running.specs.Laid.{RunFromHost};
+ghost use Rattle.running_host.specs.Laid.{RunFromHost};
 ghost use Rattle.search_host.specs.Laid.{SearchFromHost};
 ghost use Rattle.decoder_host.specs.Laid.{WindowFromHost, StringFromHost, TableFromHost};
 ghost use Rattle.checker_host.specs.Laid.{CheckFromHost};
-ghost use Rattle.writer.specs.Laid.{WriteFromHost};
+ghost use Rattle.writer_host.specs.Laid.{WriteFromHost};
 
 // Runs the coder from a start state: writes an output letter for each input letter. The file's refusals, 7, 11, 12.
 #[no_mangle]
@@ -19,7 +19,7 @@ pub extern "C" fn lowhenita_run(
 ) -> usize
     ensures { λ r. ⌜ RunFromHost (now (file .entry)) start (now (input .entry)) (now (output .entry)) (now (result .entry)) r (now (output .exit)) (now (result .exit)) ⌝ }
 {
-    running::host::run(file, start, input, output, result)
+    running_host::run(file, start, input, output, result)
 }
 
 // Finds the least window with a settle count that works for a coder in the default order, least lookahead, or the first looped pair where
@@ -122,5 +122,5 @@ pub extern "C" fn lowhenita_write(
 ) -> usize
     ensures { λ r. ⌜ WriteFromHost states inputs outputs (now (entries .entry)) (now (file .entry)) (now (result .entry)) r (now (file .exit)) (now (result .exit)) ⌝ }
 {
-    writer::host::write(states, inputs, outputs, entries, file, result)
+    writer_host::write(states, inputs, outputs, entries, file, result)
 }

@@ -9,9 +9,10 @@ use lib.Dec.{leb}
 use borrow.Author.Tests.{le-leb}
 use Rattle.mealy.specs.Product.{pairs}
 use Rattle.coder.specs.Refusal.{answer}
-use Rattle.coder.specs.File.{fileRefusal, headerOf, statesOf, inputsOf, outputsOf, machineOf, settingOf, settingAfter}
-use Rattle.coder.specs.declared.Header.{Header}
-use Rattle.coder.specs.declared.Header.the-variants.{Refused, Counts}
+use Rattle.coder.specs.File.{fileRefusal, statesOf, inputsOf, outputsOf, machineOf, settingOf, settingAfter}
+use Rattle.reader.specs.Read.{headerOf}
+use Rattle.reader.specs.declared.Header.{Header}
+use Rattle.reader.specs.declared.Header.the-variants.{Refused, Counts}
 use Rattle.coder.proofs.FileNumbers.{file-number}
 use Rattle.coder.proofs.Refusals.{upon-refused, upon-done}
 use Rattle.coder.proofs.Accepted.{accepted}

@@ -81,10 +81,10 @@ pub fn write(file: &[u8], out: &mut [u8]) -> usize
     requires { ⌜ textBytes ≤ length (now out) ⌝ }
     ensures { λ r. ⌜ ReportWritten (now (file .entry)) (now (out .entry)) (now (out .exit)) r ⌝ }
 {
-    let header = coder::counts(file);
+    let header = reader::counts(file);
     match header {
-        coder::Header::Refused(k) => refused(out, k),
-        coder::Header::Counts {
+        reader::Header::Refused(k) => refused(out, k),
+        reader::Header::Counts {
             states,
             inputs,
             outputs,

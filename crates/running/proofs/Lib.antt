@@ -1,4 +1,3 @@
 -- Laws of the coder run.
 pub mod Running
 pub mod Determined
-pub mod Hosting

@@ -1,3 +1,2 @@
 -- What the contracts of the coder run cite.
 pub mod Run
-pub mod Laid

@@ -13,7 +13,7 @@ use layout::inner::enough;
 fn refusal(file: &[u8], start: usize, input: &[u8], fits: bool) -> usize
     ensures { λ r. ⌜ r ≡ runRefusal (now (file .entry)) start (now (input .entry)) fits ⌝ }
 {
-    let k = coder::inner::file::refusal(file);
+    let k = reader::inner::refusal(file);
     if k != 0 {
         return k;
     }

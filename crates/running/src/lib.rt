@@ -2,7 +2,6 @@
 ghost use Rattle.running.specs.Run.{RunPromise};
 
 pub mod inner; // inner.rt: the run with other lent buffers besides its own; no public calls
-pub mod host; // host.rt: the call from C
 
 // What a run returns: the refusal's number, or how many letters it wrote and the state in which it ended.
 pub enum RunResult {

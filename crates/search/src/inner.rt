@@ -23,7 +23,7 @@ pub const WANTED: usize = 1026;
 fn refusal(file: &[u8], settle: usize, fits: bool) -> usize
     ensures { λ r. ⌜ r ≡ searchRefusal (now (file .entry)) settle fits ⌝ }
 {
-    let k = coder::inner::file::refusal(file);
+    let k = reader::inner::refusal(file);
     if k != 0 {
         return k;
     }

@@ -29,11 +29,11 @@ use Rattle.search.specs.declared.SearchResult.{SearchResult}
 use Rattle.search.specs.declared.SearchResult.the-variants.{Refused, Found}
 use Rattle.search.proofs.Files.{says-same}
 use Rattle.search.proofs.Determined as search
+use Rattle.decoder_refusal.specs.Refusal.{limitsRefusal, windowRefusal, stringRefusal, tableSize, tableRefusal, tableRefusalIn}
 use Rattle.decoder.specs.Written.{Written}
 use Rattle.decoder.specs.Count.{CountPromise}
-use Rattle.decoder.specs.Refusal.{limitsRefusal, windowRefusal, stringRefusal, tableSize, tableRefusal}
 use Rattle.decoder.specs.Window.{AnsweredRight}
-use Rattle.decoder.specs.Table.{EntryOf, tableRefusalIn}
+use Rattle.decoder.specs.Table.{EntryOf}
 use Rattle.decoder.specs.declared.WindowResult.the-variants as answer
 use Rattle.decoder.proofs.Writing.{written-map}
 use Rattle.decoder.proofs.Determined as decoder

@@ -18,7 +18,6 @@ use Rattle.mealy.proofs.Letters.{letter-at}
 use Rattle.coder.proofs.Accepted.{accepted}
 use Rattle.coder.specs.Refusal.{upon, answer}
 use Rattle.coder.specs.File.{entriesOf, fileOf, fileRefusal, outputsOf, machineOf}
-use Rattle.coder.proofs.Refusals.{both-right}
 use Rattle.running.specs.Run.{runRefusalIn, RunPromise}
 use Rattle.running.specs.declared.RunResult as run-result
 use Rattle.values.specs.Window.{size}
@@ -30,16 +29,15 @@ use Rattle.values.specs.declared.CountResult.{CountResult}
 use Rattle.values.specs.declared.CountResult as count-result
 use Rattle.fitting.specs.Answer.{meaning, RightByte}
 use Rattle.fitting.specs.declared.Answer.{Answer}
+use Rattle.decoder_refusal.specs.Refusal.{windowRefusal, stringRefusal, tableSize, tableRefusal, places}
 use Rattle.decoder.specs.Written.{Written}
 use Rattle.decoder.specs.Count.{CountPromise}
-use Rattle.decoder.specs.Refusal.{windowRefusal, stringRefusal, tableSize, tableRefusal}
-use Rattle.decoder.specs.Places.{places}
 use Rattle.decoder.specs.Window.{windowSetting, AnsweredRight, WindowWith, WindowPromise}
 use Rattle.decoder.specs.declared.WindowResult.{WindowResult}
 use Rattle.decoder.specs.declared.WindowResult as window-result
 use Rattle.decoder_host.specs.Laid.{laidWindow, WindowFromHost}
 use Rattle.decoder_host.proofs.Hosting.{window-enough}
-use Rattle.decoder.proofs.Accepting.{window-accepted}
+use Rattle.decoder_refusal.proofs.Accepting.{window-accepted}
 use Rattle.search.specs.Search.{searchRefusalIn, SaysOf, RefusedSearch, SearchPromise}
 use Rattle.search.specs.declared.SearchResult.{SearchResult}
 use Rattle.search.specs.declared.SearchResult as search-result
@@ -50,11 +48,11 @@ use Rattle.search.proofs.Determined.{found, no-decoder-exactly}
 use Rattle.checker.specs.Check.{checkRefusal}
 use Rattle.writer.specs.Write.{writeRefusalIn}
 use Rattle.layout.specs.Layout.{fieldAt}
-use Rattle.layout.specs.Host.{roomy, LaidOut, Handed}
+use Rattle.layout.specs.Host.{LaidOut, Handed}
 use Rattle.layout.proofs.Hosting.{no-fields, from-host, answered-host}
-use Rattle.theorems.specs.Published.{longEnough}
+use Rattle.published.specs.Published.{longEnough}
 use Rattle.theorems.specs.Demands.{Demand1, Said, byteSaid, SaidByte, Demand2, Demand3, NoLater, Demanded, FromC}
-use Rattle.theorems.proofs.Published.{file-published, run-published, search-published, check-published, window-published, string-published, table-published, write-published}
+use Rattle.published.proofs.Published.{file-published, run-published, search-published, check-published, window-published, string-published, table-published, write-published, result-published}
 use Rattle.theorems.proofs.Counted.{counted}
 use Rattle.theorems.proofs.HostReads.{first-read, search-found}
 use Rattle.theorems.proofs.RoundTrip.{round-trip}
@@ -282,7 +280,7 @@ demand-3 = record {
 pub from-c : FromC
 from-c = record {
   call = λ Promise laid result r result′ h.
-      subst (λ (t : Bool). Handed (Promise t) laid result r result′) (sym (both-right (roomy result))) h;
+      subst (λ (t : Bool). Handed (Promise t) laid result r result′) (result-published result) h;
   refused = λ k result r result′ h. (h .number, h .fields ∙ no-fields result);
   own = λ Promise laid result r result′ long h. from-host Promise laid long h;
 }

@@ -8,19 +8,20 @@ use lib.ListN.{length, take, drop}
 use lib.Seq.{take-at}
 use Rattle.mealy.specs.Machine.{Letters}
 use Rattle.coder.specs.Refusal.{answer}
-use Rattle.coder.specs.File.{statesOf, inputsOf, outputsOf, entriesOf, fileOf, entriesRefusal, fileRefusal, headerOf, partOf}
-use Rattle.coder.specs.declared.Header as header
-use Rattle.coder.specs.declared.Header.{Header}
-use Rattle.coder.specs.declared.Header.the-variants.{Counts}
+use Rattle.coder.specs.File.{statesOf, inputsOf, outputsOf, entriesOf, fileOf, entriesRefusal, fileRefusal}
+use Rattle.reader.specs.Read.{headerOf, partOf}
+use Rattle.reader.specs.declared.Header as header
+use Rattle.reader.specs.declared.Header.{Header}
+use Rattle.reader.specs.declared.Header.the-variants.{Counts}
 use Rattle.coder.proofs.Accepted.{entries-accepted, entries-high, coder-accepted, file-entries}
 use Rattle.coder.proofs.Inverse.{read-written, written-read, file-bytes}
 use Rattle.values.specs.declared.CountResult.{CountResult}
 use Rattle.values.specs.declared.CountResult.the-variants.{Refused, Done}
 use Rattle.placing.specs.Placed.{withFront}
 use Rattle.writer.specs.Write.{writeRefusalIn, FilePromise, WroteFile, WriteWith, WritePromise}
-use Rattle.writer.specs.Laid.{WriteFromHost}
+use Rattle.writer_host.specs.Laid.{WriteFromHost}
 use Rattle.writer.proofs.Writing.{length-file, write-accepted, write-given}
-use Rattle.writer.proofs.Hosting.{write-others}
+use Rattle.writer_host.proofs.Hosting.{write-others}
 use Rattle.layout.specs.Layout.{resultBytes, fieldAt}
 use Rattle.layout.specs.Host.{laidCount}
 use Rattle.layout.proofs.Hosting.{not-refused, from-host, answered-host}

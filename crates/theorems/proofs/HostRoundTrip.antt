@@ -7,8 +7,9 @@ use Rattle.mealy.specs.Machine.{end}
 use Rattle.coder.specs.File.{machineOf}
 use Rattle.coder.proofs.Accepted.{accepted}
 use Rattle.running.specs.Run.{RunWith}
-use Rattle.running.specs.Laid.{laidRun}
-use Rattle.decoder.specs.Places.{places, StringWith}
+use Rattle.running_host.specs.Laid.{laidRun}
+use Rattle.decoder_refusal.specs.Refusal.{places}
+use Rattle.decoder.specs.Places.{StringWith}
 use Rattle.values.specs.Order.{defaultOrder}
 use Rattle.layout.specs.Host.{laidCount}
 use Rattle.layout.proofs.Hosting.{from-host}

@@ -1,7 +1,4 @@
 -- Theorems over the promises of several calls.
-pub mod Rules
-pub mod Published
-pub mod Alphabet
 pub mod Counted
 pub mod RoundTrip
 pub mod HostReads

@@ -25,9 +25,9 @@ use Rattle.values.specs.declared.CountResult.the-variants.{Done}
 use Rattle.search.specs.declared.Verdict.the-variants.{Least}
 use Rattle.search.proofs.Files.{search-accepted}
 use Rattle.search.proofs.Determined.{found}
-use Rattle.decoder.specs.Refusal.{stringRefusal}
-use Rattle.decoder.specs.Places.{places, stringRefusalIn, StringPromise}
-use Rattle.decoder.proofs.Accepting.{limits-pass}
+use Rattle.decoder_refusal.specs.Refusal.{stringRefusal, places, stringRefusalIn}
+use Rattle.decoder.specs.Places.{StringPromise}
+use Rattle.decoder_refusal.proofs.Accepting.{limits-pass}
 use Rattle.decoder.proofs.ComeBack.{string-comes-back}
 use Rattle.theorems.specs.RoundTrip.{Coded, LettersComeBack}
 

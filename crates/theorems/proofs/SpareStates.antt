@@ -20,7 +20,7 @@ use Rattle.coder.proofs.Judging.{judges-not, judges-map}
 use Rattle.coder.proofs.Refusals.{answer-same, upon-map}
 use Rattle.coder.proofs.Tables.{total, some-state, file-bounded}
 use Rattle.running.specs.Run.{runRefusal}
-use Rattle.running.specs.Laid.{laidRun}
+use Rattle.running_host.specs.Laid.{laidRun}
 use Rattle.running.specs.declared.RunResult.the-variants as run
 use Rattle.running.proofs.Running.{run-accepted}
 use Rattle.values.specs.Window.{window}

@@ -51,14 +51,12 @@ use Rattle.fitting.specs.declared.Answer.the-variants.{Letter, None, Several}
 use Rattle.fitting.proofs.Answers.{right-unique, right-byte, right-byte-unique}
 use Rattle.filling.specs.Sets.{contribution, gather, add, added}
 use Rattle.filling.specs.Window.{pass, unionOf, decoded}
+use Rattle.decoder_refusal.specs.Refusal.{limitsRefusal, windowRefusal, stringRefusal, tableSize, tableRefusal, places, stringRefusalIn, tableRefusalIn}
 use Rattle.decoder.specs.Written.{Written}
-use Rattle.decoder.specs.Refusal.{limitsRefusal, windowRefusal, stringRefusal, tableSize, tableRefusal}
-use Rattle.decoder.specs.Places.{places, stringRefusalIn}
 use Rattle.window_limits.specs.Refusal.{sidesRefusal, settleRefusal}
 use Rattle.decoder.specs.Window.{AnsweredRight}
-use Rattle.decoder.specs.Table.{tableRefusalIn}
 use Rattle.decoder.specs.declared.WindowResult.the-variants.{Answered}
-use Rattle.decoder.proofs.Accepting.{window-accepted}
+use Rattle.decoder_refusal.proofs.Accepting.{window-accepted}
 use Rattle.decoder.proofs.Writing.{written-bytes, written-unique}
 use Rattle.decoder.proofs.Decoding.{startsOf, file-starts, file-right}
 use Rattle.starts.proofs.Computed.{entriesWord, imageWord, inStepsWord, startsWord}

@@ -22,9 +22,8 @@ use Rattle.table_size.specs.Cases.{tableAllowed}
 use Rattle.table_size.proofs.Exact.{cases-exact}
 use Rattle.window_limits.specs.Refusal.{sidesRefusal, settleRefusal}
 use Rattle.layout.specs.Host.{roomy, laidCount}
-use Rattle.decoder.specs.Refusal.{limitsRefusal, tableSize, tableRefusal}
-use Rattle.decoder.specs.Table.{tableRefusalIn}
-use Rattle.decoder.proofs.Accepting.{table-by-cases}
+use Rattle.decoder_refusal.specs.Refusal.{limitsRefusal, tableSize, tableRefusal, tableRefusalIn}
+use Rattle.decoder_refusal.proofs.Accepting.{table-by-cases}
 use Rattle.theorems.specs.TableLimit.{CasesExact, RefusedByCases, TableLimit}
 
 exactly : CasesExact

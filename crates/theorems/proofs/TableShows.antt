@@ -21,13 +21,13 @@ use Rattle.coder.proofs.Tables.{output-below}
 use Rattle.values.specs.Window.{size}
 use Rattle.values.specs.declared.Window.{Window}
 use Rattle.values.specs.declared.CountResult as count
-use Rattle.decoder.specs.Refusal.{tableSize}
+use Rattle.decoder_refusal.specs.Refusal.{tableSize, tableRefusalIn}
 use Rattle.decoder.specs.Window.{windowSetting}
-use Rattle.decoder.specs.Table.{EntryOf, tableRefusalIn, TableWith, TablePromise}
+use Rattle.decoder.specs.Table.{EntryOf, TableWith, TablePromise}
 use Rattle.decoder_host.proofs.Hosting.{table-enough}
 use Rattle.layout.specs.Host.{laidCount}
 use Rattle.layout.proofs.Hosting.{not-refused, answered-host}
-use Rattle.decoder.proofs.Accepting.{table-accepted}
+use Rattle.decoder_refusal.proofs.Accepting.{table-accepted}
 use Rattle.theorems.proofs.Counted.{Counted, counted}
 use Rattle.theorems.specs.TableShows.{Shows, TableShows}
 use Rattle.theorems.proofs.RoundTrip.{outs-letters}

@@ -22,9 +22,10 @@ use Rattle.mealy.specs.LoopedPair as mealy
 use Rattle.mealy.specs.LoopedPair.{Valid, TurnedRuns}
 use Rattle.mealy.specs.First.{First}
 use Rattle.coder.specs.Refusal.{upon}
-use Rattle.coder.specs.File.{statesOf, inputsOf, outputsOf, entriesOf, fileOf, headerOf, EntriesPart, machineOf, settingOf, settingAfter}
-use Rattle.coder.specs.declared.Header.{Header}
-use Rattle.coder.specs.declared.Header as header-result
+use Rattle.coder.specs.File.{statesOf, inputsOf, outputsOf, entriesOf, fileOf, machineOf, settingOf, settingAfter}
+use Rattle.reader.specs.Read.{headerOf, EntriesPart}
+use Rattle.reader.specs.declared.Header.{Header}
+use Rattle.reader.specs.declared.Header as header-result
 use Rattle.running.specs.Run.{RunWith, RunPromise}
 use Rattle.running.specs.declared.RunResult.{RunResult}
 use Rattle.running.specs.declared.RunResult as run-result
@@ -38,10 +39,10 @@ use Rattle.values.specs.declared.CountResult.{CountResult}
 use Rattle.values.specs.declared.CountResult as count-result
 use Rattle.fitting.specs.Answer.{meaning}
 use Rattle.fitting.specs.declared.Answer.{Answer}
+use Rattle.decoder_refusal.specs.Refusal.{tableSize, places}
 use Rattle.decoder.specs.Written.{Written}
-use Rattle.decoder.specs.Refusal.{tableSize}
 use Rattle.decoder.specs.Window.{windowSetting, AnsweredRight, WindowWith, WindowPromise}
-use Rattle.decoder.specs.Places.{places, ByteAt, StringWith, StringPromise}
+use Rattle.decoder.specs.Places.{ByteAt, StringWith, StringPromise}
 use Rattle.decoder.specs.Table.{EntryOf, TableWith, TablePromise}
 use Rattle.decoder.specs.declared.WindowResult.{WindowResult}
 use Rattle.decoder.specs.declared.WindowResult as window-result
@@ -59,7 +60,7 @@ use Rattle.writer.specs.Write.{WriteWith}
 use Rattle.decoder_host.specs.Laid.{WindowFromHost}
 use Rattle.layout.specs.Layout.{withFields, fieldAt}
 use Rattle.layout.specs.Host.{Laid, refused, LaidOut, Handed, FromHost}
-use Rattle.theorems.specs.Published.{Rule, firstNumber, Bytes, longEnough, fileRules, givenRun, givenSearch, givenCheck, givenWindow, givenString, givenTable, givenWrite, resultGiven}
+use Rattle.published.specs.Published.{Rule, firstNumber, Bytes, longEnough, fileRules, givenRun, givenSearch, givenCheck, givenWindow, givenString, givenTable, givenWrite, resultGiven}
 use Rattle.theorems.specs.RoundTrip.{LettersComeBack, LettersComeBackFromC}
 
 -- ---- demand 1: accepted and answered, or refused by number with nothing changed

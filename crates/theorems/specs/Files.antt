@@ -6,16 +6,17 @@ use mathlib.Core.List.{List}
 use Prim.Native.Nat.{ℕ, _≤_}
 use lib.ListN.{length, take}
 use Rattle.mealy.specs.Machine.{Letters}
-use Rattle.coder.specs.File.{statesOf, inputsOf, outputsOf, entriesOf, fileRefusal, headerOf, partOf, EntriesPart}
+use Rattle.coder.specs.File.{statesOf, inputsOf, outputsOf, entriesOf, fileRefusal}
+use Rattle.reader.specs.Read.{headerOf, partOf, EntriesPart}
 use Rattle.coder.specs.Accepted.{IsCoder}
-use Rattle.coder.specs.declared.Header.{Header}
-use Rattle.coder.specs.declared.Header.the-variants.{Counts}
+use Rattle.reader.specs.declared.Header.{Header}
+use Rattle.reader.specs.declared.Header.the-variants.{Counts}
 use Rattle.values.specs.declared.CountResult.{CountResult}
 use Rattle.values.specs.declared.CountResult.the-variants.{Done}
 use Rattle.placing.specs.Placed.{withFront}
 use Rattle.writer.specs.Write.{WroteFile, WritePromise}
 use Rattle.layout.specs.Layout.{resultBytes, fieldAt}
-use Rattle.writer.specs.Laid.{WriteFromHost}
+use Rattle.writer_host.specs.Laid.{WriteFromHost}
 
 -- What the reader's two calls give for a file, wherever that lies: h, and the entries in `part`.
 pub record Read (f : List ℕ) (h : Header) (part : List ℕ) : Type 0 where

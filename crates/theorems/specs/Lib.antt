@@ -1,6 +1,4 @@
 -- What the theorems over several calls conclude.
-pub mod Published
-pub mod Alphabet
 pub mod RoundTrip
 pub mod Files
 pub mod TableLimit

@@ -17,9 +17,10 @@ use Rattle.values.specs.declared.CountResult.the-variants.{Done}
 use Rattle.search.specs.Search.{SearchPromise}
 use Rattle.search.specs.declared.Verdict.the-variants.{Least}
 use Rattle.search.specs.declared.SearchResult.the-variants.{Found}
-use Rattle.decoder.specs.Places.{places, StringPromise}
+use Rattle.decoder_refusal.specs.Refusal.{places}
+use Rattle.decoder.specs.Places.{StringPromise}
 use Rattle.layout.specs.Layout.{resultBytes, fieldAt}
-use Rattle.running.specs.Laid.{RunFromHost}
+use Rattle.running_host.specs.Laid.{RunFromHost}
 use Rattle.search_host.specs.Laid.{SearchFromHost}
 use Rattle.decoder_host.specs.Laid.{StringFromHost}
 

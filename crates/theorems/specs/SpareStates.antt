@@ -25,7 +25,7 @@ use Rattle.search.specs.declared.SearchResult.{SearchResult}
 use Rattle.checker.specs.Check.{checkRefusal, CheckWith, CheckPromise}
 use Rattle.checker.specs.declared.CheckResult.{CheckResult}
 use Rattle.checker.specs.declared.CheckResult.the-variants.{Checked}
-use Rattle.running.specs.Laid.{RunFromHost}
+use Rattle.running_host.specs.Laid.{RunFromHost}
 use Rattle.search_host.specs.Laid.{SearchFromHost}
 use Rattle.checker_host.specs.Laid.{CheckFromHost}
 use Rattle.layout.specs.Layout.{fieldAt}

@@ -9,9 +9,10 @@ use mathlib.Core.Bool.{true, false}
 use mathlib.Core.List.{List, [], _∷_, _++_}
 use lib.ListN.{length, drop}
 use Rattle.mealy.specs.LoopedPair as mealy
-use Rattle.coder.specs.File.{fileRefusal, headerOf, statesOf, inputsOf, machineOf}
-use Rattle.coder.specs.declared.Header.{Header}
-use Rattle.coder.specs.declared.Header.the-variants.{Counts}
+use Rattle.coder.specs.File.{fileRefusal, statesOf, inputsOf, machineOf}
+use Rattle.reader.specs.Read.{headerOf}
+use Rattle.reader.specs.declared.Header.{Header}
+use Rattle.reader.specs.declared.Header.the-variants.{Counts}
 use Rattle.running.specs.Run.{RunPromise}
 use Rattle.running.specs.declared.RunResult.{RunResult}
 use Rattle.running.specs.declared.RunResult as run-result

@@ -12,7 +12,7 @@ use Rattle.values.specs.declared.CountResult.{CountResult}
 use Rattle.values.specs.declared.CountResult.the-variants.{Refused}
 use Rattle.table_size.specs.Cases.{tableAllowed}
 use Rattle.window_limits.specs.Refusal.{SidesSmall}
-use Rattle.decoder.specs.Refusal.{limitsRefusal, tableSize}
+use Rattle.decoder_refusal.specs.Refusal.{limitsRefusal, tableSize}
 use Rattle.decoder.specs.Table.{TablePromise}
 use Rattle.decoder_host.specs.Laid.{TableFromHost}
 

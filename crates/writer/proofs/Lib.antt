@@ -1,4 +1,3 @@
 -- Laws of the writer.
 pub mod Writing
 pub mod Determined
-pub mod Hosting

@@ -1,3 +1,2 @@
 -- What the contracts of the writer cite.
 pub mod Write
-pub mod Laid

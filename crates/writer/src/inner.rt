@@ -2,8 +2,8 @@
 ghost use mathlib.Core.Path.{_≡_};
 ghost use Rattle.coder.specs.File.{fileOf};
 ghost use Rattle.writer.specs.Write.{writeRefusalIn, firstSix, FirstSixAsked, WriteAsked, FileWritten, WriteWith};
-use coder::inner::file::entries_refusal;
 use placing::inner::put;
+use reader::inner::entries_refusal;
 use values::CountResult;
 
 // The refusal of a file to be written into a buffer of `room` bytes, or 0. `others` says whether all other lent buffers are long enough.

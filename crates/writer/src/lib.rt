@@ -3,7 +3,6 @@ ghost use Rattle.writer.specs.Write.{WritePromise};
 use values::CountResult;
 
 pub mod inner; // inner.rt: the writer with other lent buffers besides its own; no public calls
-pub mod host; // host.rt: the call from C
 
 // Writes the file of three counts and their entry bytes. Refusals 4 to 6, 15, 11.
 pub fn write(

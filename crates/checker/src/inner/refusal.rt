@@ -40,7 +40,7 @@ fn twice(n: usize, pair: LoopedPair) -> bool
 pub fn check(file: &[u8], pair: LoopedPair, letters: &[u8], fits: bool) -> usize
     ensures { λ r. ⌜ r ≡ checkRefusal (now (file .entry)) (pairOf pair (now (letters .entry))) fits ⌝ }
 {
-    let k = coder::inner::file::refusal(file);
+    let k = reader::inner::refusal(file);
     if k != 0 {
         return k;
     }

@@ -5,7 +5,7 @@ ghost use Rattle.decoder.specs.Places.{StringWith};
 ghost use Rattle.decoder.specs.Table.{TableWith};
 use crate::WindowResult;
 use crate::inner::checked;
-use crate::inner::refusal;
+use decoder_refusal::inner::refusal;
 use values::CountResult;
 use values::Window;
 

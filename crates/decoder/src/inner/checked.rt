@@ -1,14 +1,14 @@
 // The three calls once they are known not to be refused.
 ghost use mathlib.Core.Path.{_≡_};
 ghost use mathlib.Core.Bool.{true};
-ghost use Rattle.decoder.specs.Refusal.{windowRefusal};
+ghost use Rattle.decoder_refusal.specs.Refusal.{windowRefusal};
 ghost use Rattle.decoder.specs.Window.{RightOf};
 ghost use Rattle.decoder.specs.Places.{StringAsked, StringGiven};
 ghost use Rattle.decoder.specs.Table.{TableAsked, TableGiven};
 use crate::inner::places::decode_places;
-use crate::inner::sizes;
 use chains::inner::rows_by_key;
 use coder::inner::tables::Coder;
+use decoder_refusal::inner::sizes;
 use filling::inner::table::fill;
 use fitting::inner::tables::of_coder;
 use fitting::inner::window::decode;

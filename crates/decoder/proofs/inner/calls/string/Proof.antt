@@ -1,7 +1,7 @@
 -- `calls::string` meets its promise: the refusal with the buffer as it was, or the count and the bytes of the checked part.
 use borrow.Author.Needs.{needs}
 use Rattle.coder.proofs.Refusals.{via}
-use Rattle.decoder.proofs.Accepting.{string-asked}
+use Rattle.decoder.proofs.Asking.{string-asked}
 use Rattle.decoder.proofs.Counting.{count-refused, count-done}
 use Rattle.decoder.proofs.inner.calls.string.Statement.{statement}
 use Rattle.decoder.proofs.inner.calls.string.Tie as tie

@@ -1,7 +1,7 @@
 -- `calls::table` meets its promise: the refusal with the buffer as it was, or the size and the bytes of the checked part.
 use borrow.Author.Needs.{needs}
 use Rattle.coder.proofs.Refusals.{via}
-use Rattle.decoder.proofs.Accepting.{table-asked}
+use Rattle.decoder.proofs.Asking.{table-asked}
 use Rattle.decoder.proofs.Counting.{count-refused, count-done}
 use Rattle.decoder.proofs.inner.calls.table.Statement.{statement}
 use Rattle.decoder.proofs.inner.calls.table.Tie as tie

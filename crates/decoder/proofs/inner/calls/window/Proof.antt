@@ -2,7 +2,7 @@
 use mathlib.Core.Path.{refl}
 use borrow.Author.Needs.{needs}
 use Rattle.coder.proofs.Refusals.{via, upon-refused, upon-done}
-use Rattle.decoder.proofs.Accepting.{window-asked}
+use Rattle.decoder_refusal.proofs.Accepting.{window-asked}
 use Rattle.decoder.proofs.inner.calls.window.Statement.{statement}
 use Rattle.decoder.proofs.inner.calls.window.Tie as tie
 

@@ -2,7 +2,7 @@
 use denote.Ref.{now}
 use native.Mathlib.Omega.{arith}
 use Rattle.decoder.proofs.Decoding.{CoderOf, sound-of, outputs-of, tables-of, places-right}
-use Rattle.decoder.proofs.Accepting.{string-accepted}
+use Rattle.decoder_refusal.proofs.Accepting.{string-accepted}
 use Rattle.mealy.proofs.Letters.{letters-higher}
 use Rattle.coder.specs.File.{outputsOf}
 use Rattle.coder.specs.Limits.{maxOutputs}

@@ -6,8 +6,8 @@ use lib.ListN.{length}
 use lib.Seq.{length-take-le, length-front}
 use denote.Ref.{now}
 use Rattle.coder.specs.File.{outputsOf}
-use Rattle.decoder.specs.Refusal.{tableSize}
-use Rattle.decoder.proofs.Accepting.{table-accepted}
+use Rattle.decoder_refusal.specs.Refusal.{tableSize}
+use Rattle.decoder_refusal.proofs.Accepting.{table-accepted}
 use Rattle.decoder.proofs.Decoding.{CoderOf, sound-of, outputs-of, keys-of, rows-of, starts-of, table-right}
 use Rattle.decoder.proofs.inner.checked.table.Statement.{statement}
 use Rattle.decoder.proofs.inner.checked.table.Tie as tie

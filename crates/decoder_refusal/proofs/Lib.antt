@@ -1,0 +1,2 @@
+-- The laws of the decoder's refusals.
+pub mod Accepting

@@ -1,0 +1,2 @@
+-- What the contracts of the decoder's refusals cite.
+pub mod Refusal

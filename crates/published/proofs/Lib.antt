@@ -1,0 +1,4 @@
+-- Each call is refused as the published list says.
+pub mod Rules
+pub mod Published
+pub mod Alphabet

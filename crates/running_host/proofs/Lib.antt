@@ -1,0 +1,2 @@
+-- The laws of the coder run's call from C.
+pub mod Hosting

@@ -1,0 +1,2 @@
+-- The laws of the writer's call from C.
+pub mod Hosting
