@@ -1,10 +1,9 @@
 -- A string: the call's promise, place by place.
 use Prim.Native.Nat.{ℕ, _+_, _-_, _≤_, _<_}
 use mathlib.Core.Path.{_≡_}
-use mathlib.Core.Bool.{Bool, true, _&&_}
+use mathlib.Core.Bool.{Bool, true}
 use mathlib.Core.List.{List}
 use lib.ListN.{length, take, drop}
-use lib.Dec.{leb}
 use Rattle.mealy.specs.Machine.{Letters}
 use Rattle.coder.specs.Limits.{maxOutputs}
 use Rattle.coder.specs.declared.inner.tables.Coder.{Coder}

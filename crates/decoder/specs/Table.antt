@@ -1,10 +1,9 @@
 -- The decoder table: a byte for each window, by its index.
-use mathlib.Core.Bool.{Bool, true, _&&_}
+use mathlib.Core.Bool.{Bool, true}
 use Prim.Native.Nat.{ℕ, _≤_}
 use mathlib.Core.Path.{_≡_}
 use mathlib.Core.List.{List}
 use lib.ListN.{length}
-use lib.Dec.{leb}
 use Rattle.coder.specs.File.{outputsOf}
 use Rattle.values.specs.Window.{size}
 use Rattle.values.specs.declared.Window.{Window}

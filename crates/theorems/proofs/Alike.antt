@@ -1,11 +1,10 @@
 -- Two files with two settle counts whose settings say the same have the same outcomes: search, window, string and table, from C too.
 use mathlib.Core.Path.{_≡_, refl, ap, _∙_}
-use mathlib.Core.Bool.{Bool, true}
+use mathlib.Core.Bool.{Bool}
 use mathlib.Core.List.{List}
 use Prim.Native.Nat.{ℕ, zero, suc, _≤_}
 use native.Mathlib.Omega.{arith}
 use lib.ListN.{length, take, drop}
-use lib.Dec.{leb}
 use Rattle.mealy.specs.Setting.{Same}
 use Rattle.mealy.specs.Index.{windowAt}
 use Rattle.mealy.specs.LoopedPair.{LoopedPair}

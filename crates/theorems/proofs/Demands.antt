@@ -1,12 +1,11 @@
 -- The three demands hold.
-use mathlib.Core.Path.{_≡_, refl, sym, ap, subst, _∙_}
+use mathlib.Core.Path.{_≡_, refl, subst, _∙_}
 use mathlib.Core.Bool.{Bool, true}
 use mathlib.Core.List.{List, [], _++_}
 use Prim.Native.Nat.{ℕ, zero, suc, _+_, _<_, _≤_}
 use native.Mathlib.Omega.{arith}
 use lib.ListN.{length, getD, take, drop, length-drop}
 use lib.Seq.{take-at, length-take-le}
-use lib.Dec.{leb}
 use Rattle.mealy.specs.Machine.{outs, end}
 use Rattle.mealy.specs.Setting.{Setting}
 use Rattle.mealy.specs.Answer as theory
@@ -17,7 +16,7 @@ use Rattle.mealy.proofs.Indices.{length-window}
 use Rattle.mealy.proofs.Letters.{letter-at}
 use Rattle.coder.proofs.Accepted.{accepted}
 use Rattle.coder.specs.Refusal.{upon, answer}
-use Rattle.coder.specs.File.{entriesOf, fileOf, fileRefusal, outputsOf, machineOf}
+use Rattle.coder.specs.File.{entriesOf, fileRefusal, outputsOf, machineOf}
 use Rattle.running.specs.Run.{runRefusalIn, RunPromise}
 use Rattle.running.specs.declared.RunResult as run-result
 use Rattle.values.specs.Window.{size}
@@ -29,7 +28,7 @@ use Rattle.values.specs.declared.CountResult.{CountResult}
 use Rattle.values.specs.declared.CountResult as count-result
 use Rattle.fitting.specs.Answer.{meaning, RightByte}
 use Rattle.fitting.specs.declared.Answer.{Answer}
-use Rattle.decoder_refusal.specs.Refusal.{windowRefusal, stringRefusal, tableSize, tableRefusal, places}
+use Rattle.decoder_refusal.specs.Refusal.{windowRefusal}
 use Rattle.decoder.specs.Written.{Written}
 use Rattle.decoder.specs.Count.{CountPromise}
 use Rattle.decoder.specs.Window.{windowSetting, AnsweredRight, WindowWith, WindowPromise}
@@ -45,7 +44,6 @@ use Rattle.search.specs.declared.SearchResult.the-variants.{Found}
 use Rattle.search.specs.declared.Verdict.{Verdict}
 use Rattle.search.specs.declared.Verdict.the-variants.{Least, NoDecoder}
 use Rattle.search.proofs.Determined.{found, no-decoder-exactly}
-use Rattle.checker.specs.Check.{checkRefusal}
 use Rattle.writer.specs.Write.{writeRefusalIn}
 use Rattle.layout.specs.Layout.{fieldAt}
 use Rattle.layout.specs.Host.{LaidOut, Handed}

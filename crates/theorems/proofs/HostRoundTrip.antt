@@ -1,6 +1,6 @@
 -- The round trip from C: a host runs the coder, searches, reads the window from the search's result, and decodes with it what was sent.
-use mathlib.Core.Path.{_≡_, ap}
-use mathlib.Core.List.{[], _∷_}
+use mathlib.Core.Path.{ap}
+use mathlib.Core.List.{[]}
 use native.Mathlib.Omega.{arith}
 use lib.ListN.{length, take}
 use Rattle.mealy.specs.Machine.{end}

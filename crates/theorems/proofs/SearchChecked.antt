@@ -1,8 +1,8 @@
 -- What the search gives, the checker accepts, also from C, and it keeps the bounds: over the promises of the two calls alone.
-use mathlib.Core.Path.{_≡_, sym, ap, _∙_}
+use mathlib.Core.Path.{_≡_, ap}
 use mathlib.Core.Bool.{true}
-use mathlib.Core.List.{List, [], _∷_}
-use Prim.Native.Nat.{ℕ, _*_, _≤_, _<_}
+use mathlib.Core.List.{List, []}
+use Prim.Native.Nat.{ℕ, _*_, _<_}
 use native.Mathlib.Nat.{mul-le-mul}
 use native.Mathlib.Omega.{arith}
 use lib.ListN.{length, take}
@@ -15,7 +15,7 @@ use Rattle.coder.specs.File.{fileRefusal, statesOf, inputsOf, machineOf, settin
 use Rattle.coder.proofs.Accepted.{accepted}
 use Rattle.coder.proofs.Tables.{file-bounded}
 use Rattle.coder.proofs.Judging.{judges-yes}
-use Rattle.values.specs.Pair.{pairOf, loopedPair}
+use Rattle.values.specs.Pair.{pairOf}
 use Rattle.values.specs.Order.{defaultOrder}
 use Rattle.values.specs.declared.LoopedPair.{LoopedPair}
 use Rattle.values.specs.declared.Order.{Order}
@@ -36,7 +36,7 @@ use Rattle.layout.proofs.Reading.{field-at}
 use Rattle.layout.proofs.Hosting.{from-host}
 use Rattle.theorems.specs.SearchChecked.{lettersIn, PairBounds, pairRead, SearchChecked}
 use Rattle.theorems.proofs.RoundTrip.{letters-test}
-use Rattle.theorems.proofs.HostReads.{first-read, FoundFromC, search-found, kind, kind-read}
+use Rattle.theorems.proofs.HostReads.{first-read, search-found, kind-read}
 
 -- For a "no decoder", the check of that pair with the bytes of its letters, the first ones of the buffer, is not refused and says yes.
 search-checked :

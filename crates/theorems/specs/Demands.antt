@@ -1,11 +1,11 @@
 -- The three demands, one record each, over the promises of the calls alone. A buyer begins here: `demand-1`, `demand-2`, `demand-3` and
--- `from-c` of proofs/Demands.antt prove these records, and each call's contract is that it meets its promise for all arguments. Beside this
--- file stand: the published list of refusals (Published.antt), that an accepted coder names its whole alphabet (Alphabet.antt), reader and
--- writer of coder files as inverses (Files.antt), refusal 10 by cases on O (TableLimit.antt), spare states (SpareStates.antt), what a settle
--- count changes (SettleCounts.antt), that the checker accepts what the search gives (SearchChecked.antt), that a table shows whether its
--- window works (TableShows.antt), that no promise is empty (Exists.antt), and the starred cases (Starred.antt). The runs that pairs go by
--- start in reachable states (document 02, 5/13): `settingOf`. Those of windows and answers start where as many letters as the settle count
--- says lead from there (6/13): `settingAfter`, and of the decoder's calls `windowSetting`.
+-- `from-c` of proofs/Demands.antt prove these records, and each call's contract is that it meets its promise for all arguments. In the
+-- crate published stand the published list of refusals (Published.antt) and that an accepted coder names its whole alphabet (Alphabet.antt).
+-- Beside this file: reader and writer of coder files as inverses (Files.antt), refusal 10 by cases on O (TableLimit.antt), spare states
+-- (SpareStates.antt), what a settle count changes (SettleCounts.antt), that the checker accepts what the search gives (SearchChecked.antt),
+-- that a table shows whether its window works (TableShows.antt), that no promise is empty (Exists.antt), the starred cases (Starred.antt).
+-- The runs that pairs go by start in reachable states (document 02, 5/13): `settingOf`. Those of windows and answers start where as many
+-- letters as the settle count says lead from there (6/13): `settingAfter`, and of the decoder's calls `windowSetting`.
 use Prim.Native.Nat.{ℕ, _+_, _≤_, _<_}
 use mathlib.Core.Path.{_≡_}
 use mathlib.Core.Bool.{Bool, true}
