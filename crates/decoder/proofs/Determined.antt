@@ -119,7 +119,8 @@ module _ (f : List ℕ) (w : Window) (received before : List ℕ) (others : Bool
 
   pub string-exists : (r : count.CountResult) × (after : List ℕ) × StringWith f w received before others r after
   string-exists =
-      parts-exist f (w .settle) (w .before) (λ j. take (size w) (drop j received)) _ (stringRefusalIn f w received (length before) others) before
+      parts-exist f (w .settle) (w .before) (λ j. take (size w) (drop j received)) _
+      (stringRefusalIn f w received (length before) others) before
       (λ z. (
         string-accepted f w received _ z .limits .file,
         string-asked f w received before others z .room,

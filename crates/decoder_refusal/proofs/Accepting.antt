@@ -68,7 +68,8 @@ window-accepted f w received fit e =
 
 -- its checked part is asked rightly, whatever buffers are lent
 pub window-asked :
-    (f : List ℕ) (w : Window) (received : List ℕ) (others : Bool) → windowRefusal f w received others ≡ 0 → windowRefusal f w received true ≡ 0
+    (f : List ℕ) (w : Window) (received : List ℕ) (others : Bool) → windowRefusal f w received others ≡ 0 →
+    windowRefusal f w received true ≡ 0
 window-asked f w received others e = rw (window-accepted f w received others e .fits) at e
 
 -- ---- a string

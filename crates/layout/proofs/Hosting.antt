@@ -1,5 +1,5 @@
--- A call from C beside the library's own call: what a refusal leaves, when there is room for an answer, and that outcomes are determined where
--- the own call's are.
+-- A call from C beside the library's own call: what a refusal leaves, when there is room for an answer, and that outcomes are determined
+-- where the own call's are.
 use mathlib.Core.Path.{_≡_, refl, sym, ap, _∙_}
 use mathlib.Core.Bool.{Bool, true}
 use mathlib.Core.List.{List, []}

@@ -45,7 +45,7 @@ pub record Handed {R : Type 0} (Promise : R → Type 0) (laid : R → Laid) (res
   pub promised : Promise own
   pub out : LaidOut (laid own) result r result′
 
--- A call from C. `Promise others own` says that the library's own call may give `own`, where `others` is whether the lent buffers besides its
--- own are long enough; here that is the result buffer.
+-- A call from C. `Promise others own` says that the library's own call may give `own`, where `others` is whether the lent buffers besides
+-- its own are long enough; here that is the result buffer.
 abbrev pub FromHost : {R : Type 0} → (Bool → R → Type 0) → (R → Laid) → List ℕ → ℕ → List ℕ → Type 0
 FromHost Promise laid result r result′ = Handed (Promise (roomy result)) laid result r result′

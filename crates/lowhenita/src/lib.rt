@@ -1,5 +1,5 @@
-// The calls for a host in C, which include/lowhenita.h describes: each hands its arguments on to the function of its own crate that does the
-// work, and has that function's promise.
+// The calls for a host in C, which include/lowhenita.h describes: each hands its arguments on to the function of its own crate that does
+// the work, and has that function's promise.
 ghost use Rattle.values.specs.Window.{window};
 ghost use Rattle.values.specs.Pair.{pairOf, loopedPair};
 ghost use Rattle.running_host.specs.Laid.{RunFromHost};

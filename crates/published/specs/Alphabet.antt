@@ -1,7 +1,7 @@
 -- Unused output letters (document 02, 7/13), of each coder that a call is given: its rules give 15 exactly where no number from 1 to 6
--- applies and its entries do not name the whole alphabet. So is a call refused with 15 that is given this coder first and no other, whatever
--- else it is given; and a call that is not refused has a coder that names all letters. Over the published list; that each call is refused as
--- the list says stands in Demands.antt.
+-- applies and its entries do not name the whole alphabet. So is a call refused with 15 that is given this coder first and no other,
+-- whatever else it is given; and a call that is not refused has a coder that names all letters. Over the published list; that each call
+-- is refused as the list says stands in Demands.antt.
 use Prim.Native.Nat.{ℕ, _*_, _≤_}
 use mathlib.Core.Path.{_≡_}
 use mathlib.Core.Bool.{true}
@@ -34,7 +34,9 @@ parity o = 1 ∷ 0 ∷ 11 ∷ 2 ∷ 2 ∷ o ∷ 0 ∷ 0 ∷ 1 ∷ 1 ∷ 1 ∷ 1 
 
 pub record WholeAlphabet : Type 0 where
   pub file : (f : List ℕ) → FifteenLast (layoutRules f) (fileRules f) (FileNamed f)
-  pub parts : (n i o : ℕ) (entries : List ℕ) → FifteenLast (partsLayoutRules n i o entries) (partsRules n i o entries) (PartsNamed n i o entries)
+  pub parts :
+      (n i o : ℕ) (entries : List ℕ) →
+      FifteenLast (partsLayoutRules n i o entries) (partsRules n i o entries) (PartsNamed n i o entries)
   -- such a coder has no more output letters than entries
   pub no-more-letters : (f : List ℕ) → FileNamed f → outputsOf f ≤ statesOf f * inputsOf f
   -- of counts and entries the list lets pass the coders within the limits that name their whole alphabet, and nothing else

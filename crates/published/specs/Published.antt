@@ -1,6 +1,6 @@
--- The published list of refusals (document 01, "Numbers of refusal, in checking order"; document 02, 3/13, for the writer, 6/13 for number 14
--- and 7/13 for number 15): a rule for each number, the order of the numbers, and each call as the rules about what it is given. The limits
--- are the documents' own numbers here, and not the constants that the definitions of the calls use.
+-- The published list of refusals (document 01, "Numbers of refusal, in checking order"; document 02, 3/13, for the writer, 6/13 for
+-- number 14 and 7/13 for number 15): a rule for each number, the order of the numbers, and each call as the rules about what it is given.
+-- The limits are the documents' own numbers here, and not the constants that the definitions of the calls use.
 use Prim.Native.Nat.{ℕ, _+_, _-_, _*_}
 use mathlib.Core.Path.{_≡_}
 use mathlib.Core.Bool.{Bool, true, false, not, _&&_, _||_}
@@ -137,7 +137,8 @@ givenSearch f p before others = fileRules f ++ (settleRule p ∷ buffersRule (le
 abbrev pub givenCheck : List ℕ → LoopedPair → List Bytes → List Rule
 givenCheck f p others =
     fileRules f ++
-    (startRule f (p .s) ∷ startRule f (p .t) ∷ numberRule (length (p .bytes)) (2 * letters p) ∷ buffersRule others ∷ inputsRule f (p .bytes) ∷ [])
+    (startRule f (p .s) ∷ startRule f (p .t) ∷ numberRule (length (p .bytes)) (2 * letters p) ∷ buffersRule others ∷
+    inputsRule f (p .bytes) ∷ [])
 
 -- a window, with its settle count, in front of what else a call is given
 abbrev pub windowRules : Window → List Rule → List Rule
@@ -151,7 +152,8 @@ givenWindow f w received others =
 -- a string of n letters: n − b − a bytes, one for each place with a full window
 abbrev pub givenString : List ℕ → Window → List ℕ → List ℕ → List Bytes → List Rule
 givenString f w received before others =
-    fileRules f ++ windowRules w (buffersRule (lent before (length received - (w .before + w .after)) ∷ others) ∷ receivedRule f received ∷ [])
+    fileRules f ++
+    windowRules w (buffersRule (lent before (length received - (w .before + w .after)) ∷ others) ∷ receivedRule f received ∷ [])
 
 -- a decoder table
 abbrev pub givenTable : List ℕ → Window → List ℕ → List Bytes → List Rule

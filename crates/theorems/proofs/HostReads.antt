@@ -55,7 +55,8 @@ pub search-found :
     (f : List ℕ) (p : ℕ) (before result after result′ : List ℕ) → SearchFromHost f p before result 0 after result′ →
     FoundFromC f p before result after result′
 search-found f p before result after result′ h =
-    let g = answered-host (λ others own. _) laidSearch (λ others own. search-others defaultOrder f p before after others own) (omega arith) h in
+    let g =
+    answered-host (λ others own. _) laidSearch (λ others own. search-others defaultOrder f p before after others own) (omega arith) h in
     let v = verdict (g .own) (searchRefusalIn f p (length before) true) (g .promised) (sym (g .out .number)) in
     record {
       verdict = v .0;

@@ -28,7 +28,8 @@ host-round-trip f s xs coded small before₁ result₁ r₁ after₁ result₁�
     omega (arith, end-low f s xs coded, accepted f (coded .file) .entries .limits .states-high) in
     let ends = second-read result₁ (laidRun (u .own)) (length xs) _ _ (ap laidRun ended) end-small (u .out) in
     let v =
-    from-host (λ others own. StringWith f w (take (length xs) after₁) before₃ others own after₃) laidCount long₃ (rw (sent .1) at decoded) in
+    from-host (λ others own. StringWith f w (take (length xs) after₁) before₃ others own after₃) laidCount long₃
+    (rw (sent .1) at decoded) in
     let t =
     round-trip f s xs coded before₁ (u .own) after₁ room₁ (u .promised) defaultOrder p before₂ w after₂
     (window-found f (coded .file) p before₂ result₂ after₂ result₂′ found is-window) before₃ (v .own) after₃ room₃ (v .promised) in

@@ -78,7 +78,8 @@ same-kind (NoDecoder q) (NoDecoder q′) e = refl
 
 existence-read :
     (f : List ℕ) (p p′ : ℕ) (before result after given before′ result′ after′ given′ : List ℕ) →
-    SearchFromHost f p before result 0 after given → SearchFromHost f p′ before′ result′ 0 after′ given′ → fieldAt given 0 ≡ fieldAt given′ 0
+    SearchFromHost f p before result 0 after given → SearchFromHost f p′ before′ result′ 0 after′ given′ →
+    fieldAt given 0 ≡ fieldAt given′ 0
 existence-read f p p′ before result after given before′ result′ after′ given′ h h′ =
     let x = search-found f p before result after given h in
     let y = search-found f p′ before′ result′ after′ given′ h′ in

@@ -118,7 +118,8 @@ test f (claimed.answer b a p w v) =
     eqb (windowRefusal f (window b a p) w true) 0 && sameAnswer (decoded (coderOf f) (startsOf f p) w b) v
 test f (claimed.string b a p received bytes) =
     let w = window b a p in
-    (eqb (stringRefusal f w received true) 0 && (eqb (length bytes) (places (length received) w) && allBelow (length bytes) (λ k. eqb (getD bytes k 0) (partByte f p b (take (size w) (drop k received))))))
+    let same : ℕ → Bool = λ k. eqb (getD bytes k 0) (partByte f p b (take (size w) (drop k received))) in
+    (eqb (stringRefusal f w received true) 0 && (eqb (length bytes) (places (length received) w) && allBelow (length bytes) same))
 test f (claimed.table b a p bytes) =
     (eqb (tableRefusal f (window b a p) true) 0 && (eqb (length bytes) (tableSize (outputsOf f) (window b a p)) && allBelow (length bytes) (λ k. eqb (getD bytes k 0) (entryByte f p (size (window b a p)) b k))))
 test f (claimed.run s xs os e) =
@@ -300,7 +301,8 @@ module _ (f : List ℕ) (z : fileRefusal f ≡ 0) where
       let long = eqb (length bytes) (places (length received) w) in
       let t = both-true (eqb (stringRefusal f w received true) 0) (long && allBelow (length bytes) same) e in
       let u = both-true long (allBelow (length bytes) same) (t .1) in
-      string-holds b a p received bytes (eqb-true _ _ (t .0)) (eqb-true _ _ (u .0)) (λ k l. eqb-true _ _ (all-at (length bytes) same (u .1) k l))
+      string-holds b a p received bytes (eqb-true _ _ (t .0)) (eqb-true _ _ (u .0))
+      (λ k l. eqb-true _ _ (all-at (length bytes) same (u .1) k l))
   claim-holds (claimed.table b a p bytes) e =
       let same : ℕ → Bool = λ k. eqb (getD bytes k 0) (entryByte f p (size (window b a p)) b k) in
       let long = eqb (length bytes) (tableSize (outputsOf f) (window b a p)) in

@@ -82,6 +82,7 @@ table-limit = record {
       ((λ e. t .0 (k .0 (sym (p .result) ∙ e))), λ q. p .result ∙ k .1 (t .1 q));
   call-from-C = λ f w before result r after result′ h.
       let t = ten f w _ in
-      let n = h .out .number ∙ ap (λ x. laidCount x .returned) (h .promised .result) ∙ returned-count (tableRefusalIn f w (length before) (roomy result)) _ in
+      let k = tableRefusalIn f w (length before) (roomy result) in
+      let n = h .out .number ∙ ap (λ x. laidCount x .returned) (h .promised .result) ∙ returned-count k _ in
       ((λ e. t .0 (sym n ∙ e)), λ q. n ∙ t .1 q);
 }

@@ -1,11 +1,12 @@
 -- The three demands, one record each, over the promises of the calls alone. A buyer begins here: `demand-1`, `demand-2`, `demand-3` and
 -- `from-c` of proofs/Demands.antt prove these records, and each call's contract is that it meets its promise for all arguments. In the
--- crate published stand the published list of refusals (Published.antt) and that an accepted coder names its whole alphabet (Alphabet.antt).
--- Beside this file: reader and writer of coder files as inverses (Files.antt), refusal 10 by cases on O (TableLimit.antt), spare states
--- (SpareStates.antt), what a settle count changes (SettleCounts.antt), that the checker accepts what the search gives (SearchChecked.antt),
--- that a table shows whether its window works (TableShows.antt), that no promise is empty (Exists.antt), the starred cases (Starred.antt).
--- The runs that pairs go by start in reachable states (document 02, 5/13): `settingOf`. Those of windows and answers start where as many
--- letters as the settle count says lead from there (6/13): `settingAfter`, and of the decoder's calls `windowSetting`.
+-- crate published stand the published list of refusals (Published.antt) and that an accepted coder names its whole alphabet
+-- (Alphabet.antt). Beside this file: reader and writer of coder files as inverses (Files.antt), refusal 10 by cases on O
+-- (TableLimit.antt), spare states (SpareStates.antt), what a settle count changes (SettleCounts.antt), that the checker accepts what the
+-- search gives (SearchChecked.antt), that a table shows whether its window works (TableShows.antt), that no promise is empty
+-- (Exists.antt), the starred cases (Starred.antt). The runs that pairs go by start in reachable states (document 02, 5/13): `settingOf`.
+-- Those of windows and answers start where as many letters as the settle count says lead from there (6/13): `settingAfter`, and of the
+-- decoder's calls `windowSetting`.
 use Prim.Native.Nat.{ℕ, _+_, _≤_, _<_}
 use mathlib.Core.Path.{_≡_}
 use mathlib.Core.Bool.{Bool, true}
@@ -71,8 +72,8 @@ abbrev pub Judged : List Rule → (ℕ → Type 0) → Type 0 → Type 0
 Judged rules Refused Answered = upon (firstNumber rules) Refused Answered
 
 -- For each call: a result that it promises is its refusal by that number, with every lent byte as it was, or its stated answer. `others`
--- are the lent buffers that it has besides its own: none for the library's own call, the result buffer for a call from C (`FromC`). The call
--- that hands entries back has an empty part for a number, and else the bytes of the file from byte 6 on, where they stand in it.
+-- are the lent buffers that it has besides its own: none for the library's own call, the result buffer for a call from C (`FromC`). The
+-- call that hands entries back has an empty part for a number, and else the bytes of the file from byte 6 on, where they stand in it.
 pub record Demand1 : Type 0 where
   pub counts :
       (f : List ℕ) (r : Header) → r ≡ headerOf f →
@@ -89,7 +90,8 @@ pub record Demand1 : Type 0 where
       ((r ≡ run-result.the-variants.Done (length xs) (end (machineOf f) s xs)) ×
       (after ≡ outs (machineOf f) s xs ++ drop (length xs) before))
   pub window :
-      (f : List ℕ) (w : Window) (received : List ℕ) (others : List Bytes) (r : WindowResult) → WindowWith f w received (longEnough others) r →
+      (f : List ℕ) (w : Window) (received : List ℕ) (others : List Bytes) (r : WindowResult) →
+      WindowWith f w received (longEnough others) r →
       Judged (givenWindow f w received others) (λ k. r ≡ window-result.the-variants.Refused k) (AnsweredRight f w received r)
   pub string :
       (f : List ℕ) (w : Window) (received before : List ℕ) (others : List Bytes) (r : CountResult) (after : List ℕ) →

@@ -1,5 +1,5 @@
--- No promise is empty: for every argument, whatever other buffers are lent, some outcome meets it. That two outcomes which meet it are equal
--- stands beside each call (proofs/Determined.antt of its crate).
+-- No promise is empty: for every argument, whatever other buffers are lent, some outcome meets it. That two outcomes which meet it are
+-- equal stands beside each call (proofs/Determined.antt of its crate).
 use Prim.Native.Nat.{ℕ}
 use mathlib.Core.Bool.{Bool}
 use mathlib.Core.List.{List}

@@ -58,7 +58,8 @@ LettersComeBack =
 
 -- The same with what the host reads from the result buffers of run and decoder: both calls return 0, and the fields say how many
 -- letters were sent and decoded, and in which state the run ended.
-pub record HostRoundTrip (f : List ℕ) (s : ℕ) (xs : List ℕ) (w : Window) (r₁ : ℕ) (result₁ : List ℕ) (r₃ : ℕ) (result₃ decoded : List ℕ) : Type 0 where
+pub record HostRoundTrip (f : List ℕ) (s : ℕ) (xs : List ℕ) (w : Window) (r₁ : ℕ) (result₁ : List ℕ) (r₃ : ℕ)
+    (result₃ decoded : List ℕ) : Type 0 where
   pub ran : r₁ ≡ 0
   pub sent : fieldAt result₁ 0 ≡ length xs
   pub ended : fieldAt result₁ 1 ≡ end (machineOf f) s xs

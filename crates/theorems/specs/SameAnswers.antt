@@ -30,7 +30,8 @@ module _ (f f′ : List ℕ) (p p′ : ℕ) where
   pub record SameAnswersFromC : Type 0 where
     pub window :
         (b a : ℕ) (received result : List ℕ) (r r′ : ℕ) (given given′ : List ℕ) →
-        WindowFromHost f (values.window b a p) received result r given → WindowFromHost f′ (values.window b a p′) received result r′ given′ →
+        WindowFromHost f (values.window b a p) received result r given →
+        WindowFromHost f′ (values.window b a p′) received result r′ given′ →
         (r ≡ r′) × (given ≡ given′)
     pub string :
         (b a : ℕ) (received before result : List ℕ) (r r′ : ℕ) (after after′ given given′ : List ℕ) →

@@ -70,7 +70,8 @@ pub record SettleCounts : Type 0 where
   -- from C: field 0 says whether there is a window, of which fields 1 and 2 are the sides
   pub existence-from-C :
       (f : List ℕ) (p p′ : ℕ) (before result after given before′ result′ after′ given′ : List ℕ) →
-      SearchFromHost f p before result 0 after given → SearchFromHost f p′ before′ result′ 0 after′ given′ → fieldAt given 0 ≡ fieldAt given′ 0
+      SearchFromHost f p before result 0 after given → SearchFromHost f p′ before′ result′ 0 after′ given′ →
+      fieldAt given 0 ≡ fieldAt given′ 0
   pub larger-no-later-from-C :
       (f : List ℕ) (p p′ : ℕ) (before result after given before′ result′ after′ given′ : List ℕ) → p ≤ p′ →
       SearchFromHost f p before result 0 after given → SearchFromHost f p′ before′ result′ 0 after′ given′ → fieldAt given 0 ≡ 0 →

@@ -18,7 +18,11 @@ put-requires : tie.Need-put-requires
 put-requires c κs =
     let v = c .before .before .before in
     let a = v .before .before .before .before .before .before .args in
-    λ z. leb-true _ _ (via (v .before .roomy .ensures) (search-others defaultOrder (now (a .file)) (a .settle) (now (a .letters)) (v .search .last .1 .1 .1 .0) _ (v .search .result) (v .search .ensures) z))
+    let left = v .search .last .1 .1 .1 .0 in
+    λ z.
+    leb-true _ _
+    (via (v .before .roomy .ensures)
+    (search-others defaultOrder (now (a .file)) (a .settle) (now (a .letters)) left _ (v .search .result) (v .search .ensures) z))
 
 same-length : tie.Need-same-length
 same-length c = search needs
