@@ -41,7 +41,9 @@ pub fn check(
     letters: &[u8],
     result: &mut [u8],
 ) -> usize
-    ensures { λ r. ⌜ CheckFromHost (now (file .entry)) (pairOf (loopedPair s t «back_loop» «lead_in» «lead_out» «forward_loop») (now (letters .entry))) (now (result .entry)) r (now (result .exit)) ⌝ }
+    ensures { λ r. ⌜ CheckFromHost (now (file .entry))
+        (pairOf (loopedPair s t «back_loop» «lead_in» «lead_out» «forward_loop») (now (letters .entry)))
+        (now (result .entry)) r (now (result .exit)) ⌝ }
 {
     let pair = LoopedPair {
         s,

@@ -34,7 +34,8 @@ pub fn window(
     received: &[u8],
     result: &mut [u8],
 ) -> usize
-    ensures { λ r. ⌜ WindowFromHost (now (file .entry)) (windowOf before after settle) (now (received .entry)) (now (result .entry)) r (now (result .exit)) ⌝ }
+    ensures { λ r. ⌜ WindowFromHost (now (file .entry)) (windowOf before after settle) (now (received .entry))
+        (now (result .entry)) r (now (result .exit)) ⌝ }
 {
     let w = Window {
         before,
@@ -55,7 +56,8 @@ pub fn string(
     output: &mut [u8],
     result: &mut [u8],
 ) -> usize
-    ensures { λ r. ⌜ StringFromHost (now (file .entry)) (windowOf before after settle) (now (received .entry)) (now (output .entry)) (now (result .entry)) r (now (output .exit)) (now (result .exit)) ⌝ }
+    ensures { λ r. ⌜ StringFromHost (now (file .entry)) (windowOf before after settle) (now (received .entry))
+        (now (output .entry)) (now (result .entry)) r (now (output .exit)) (now (result .exit)) ⌝ }
 {
     let w = Window {
         before,
@@ -75,7 +77,8 @@ pub fn table(
     table: &mut [u8],
     result: &mut [u8],
 ) -> usize
-    ensures { λ r. ⌜ TableFromHost (now (file .entry)) (windowOf before after settle) (now (table .entry)) (now (result .entry)) r (now (table .exit)) (now (result .exit)) ⌝ }
+    ensures { λ r. ⌜ TableFromHost (now (file .entry)) (windowOf before after settle)
+        (now (table .entry)) (now (result .entry)) r (now (table .exit)) (now (result .exit)) ⌝ }
 {
     let w = Window {
         before,

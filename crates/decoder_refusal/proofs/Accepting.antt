@@ -20,7 +20,8 @@ use Rattle.window_limits.specs.Refusal.{sidesRefusal, settleRefusal, SidesSmall
 use Rattle.window_limits.proofs.Limits.{sides-accepted, sides-pass, settle-accepted, settle-pass}
 use Rattle.values.specs.Window.{size}
 use Rattle.values.specs.declared.Window.{Window}
-use Rattle.decoder_refusal.specs.Refusal.{limitsRefusal, windowRefusal, stringRefusal, tableSize, tableRefusal, places, stringRefusalIn, tableRefusalIn}
+use Rattle.decoder_refusal.specs.Refusal.{limitsRefusal, windowRefusal, stringRefusal, tableSize, tableRefusal, places}
+use Rattle.decoder_refusal.specs.Refusal.{stringRefusalIn, tableRefusalIn}
 
 -- the file and the three numbers of a window, which every call checks first
 pub record LimitsAccepted (f : List ℕ) (w : Window) : Type 0 where

@@ -17,7 +17,8 @@ pub extern "C" fn lowhenita_run(
     output: &mut [u8],
     result: &mut [u8],
 ) -> usize
-    ensures { λ r. ⌜ RunFromHost (now (file .entry)) start (now (input .entry)) (now (output .entry)) (now (result .entry)) r (now (output .exit)) (now (result .exit)) ⌝ }
+    ensures { λ r. ⌜ RunFromHost (now (file .entry)) start (now (input .entry))
+        (now (output .entry)) (now (result .entry)) r (now (output .exit)) (now (result .exit)) ⌝ }
 {
     running_host::run(file, start, input, output, result)
 }
@@ -31,7 +32,8 @@ pub extern "C" fn lowhenita_search(
     letters: &mut [u8],
     result: &mut [u8],
 ) -> usize
-    ensures { λ r. ⌜ SearchFromHost (now (file .entry)) settle (now (letters .entry)) (now (result .entry)) r (now (letters .exit)) (now (result .exit)) ⌝ }
+    ensures { λ r. ⌜ SearchFromHost (now (file .entry)) settle
+        (now (letters .entry)) (now (result .entry)) r (now (letters .exit)) (now (result .exit)) ⌝ }
 {
     search_host::search(file, settle, letters, result)
 }
@@ -47,7 +49,8 @@ pub extern "C" fn lowhenita_decode(
     output: &mut [u8],
     result: &mut [u8],
 ) -> usize
-    ensures { λ r. ⌜ StringFromHost (now (file .entry)) (window before after settle) (now (received .entry)) (now (output .entry)) (now (result .entry)) r (now (output .exit)) (now (result .exit)) ⌝ }
+    ensures { λ r. ⌜ StringFromHost (now (file .entry)) (window before after settle) (now (received .entry))
+        (now (output .entry)) (now (result .entry)) r (now (output .exit)) (now (result .exit)) ⌝ }
 {
     decoder_host::string(file, before, after, settle, received, output, result)
 }
@@ -65,7 +68,9 @@ pub extern "C" fn lowhenita_check(
     letters: &[u8],
     result: &mut [u8],
 ) -> usize
-    ensures { λ r. ⌜ CheckFromHost (now (file .entry)) (pairOf (loopedPair s t «back_loop» «lead_in» «lead_out» «forward_loop») (now (letters .entry))) (now (result .entry)) r (now (result .exit)) ⌝ }
+    ensures { λ r. ⌜ CheckFromHost (now (file .entry))
+        (pairOf (loopedPair s t «back_loop» «lead_in» «lead_out» «forward_loop») (now (letters .entry)))
+        (now (result .entry)) r (now (result .exit)) ⌝ }
 {
     checker_host::check(
         file,
@@ -90,7 +95,8 @@ pub extern "C" fn lowhenita_window(
     received: &[u8],
     result: &mut [u8],
 ) -> usize
-    ensures { λ r. ⌜ WindowFromHost (now (file .entry)) (window before after settle) (now (received .entry)) (now (result .entry)) r (now (result .exit)) ⌝ }
+    ensures { λ r. ⌜ WindowFromHost (now (file .entry)) (window before after settle) (now (received .entry))
+        (now (result .entry)) r (now (result .exit)) ⌝ }
 {
     decoder_host::window(file, before, after, settle, received, result)
 }
@@ -105,7 +111,8 @@ pub extern "C" fn lowhenita_table(
     table: &mut [u8],
     result: &mut [u8],
 ) -> usize
-    ensures { λ r. ⌜ TableFromHost (now (file .entry)) (window before after settle) (now (table .entry)) (now (result .entry)) r (now (table .exit)) (now (result .exit)) ⌝ }
+    ensures { λ r. ⌜ TableFromHost (now (file .entry)) (window before after settle)
+        (now (table .entry)) (now (result .entry)) r (now (table .exit)) (now (result .exit)) ⌝ }
 {
     decoder_host::table(file, before, after, settle, table, result)
 }
@@ -120,7 +127,8 @@ pub extern "C" fn lowhenita_write(
     file: &mut [u8],
     result: &mut [u8],
 ) -> usize
-    ensures { λ r. ⌜ WriteFromHost states inputs outputs (now (entries .entry)) (now (file .entry)) (now (result .entry)) r (now (file .exit)) (now (result .exit)) ⌝ }
+    ensures { λ r. ⌜ WriteFromHost states inputs outputs (now (entries .entry))
+        (now (file .entry)) (now (result .entry)) r (now (file .exit)) (now (result .exit)) ⌝ }
 {
     writer_host::write(states, inputs, outputs, entries, file, result)
 }

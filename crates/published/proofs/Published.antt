@@ -8,7 +8,8 @@ use native.Mathlib.Omega.{arith}
 use lib.ListN.{length, length-drop}
 use lib.Dec.{ltb, eqb}
 use borrow.Author.Tests.{eq-eqb, ne-eqb, ltb-false, eqb-true}
-use Rattle.decoder_refusal.specs.Refusal.{limitsRefusal, windowRefusal, stringRefusal, tableSize, tableRefusal, places, stringRefusalIn, tableRefusalIn}
+use Rattle.decoder_refusal.specs.Refusal.{limitsRefusal, windowRefusal, stringRefusal, tableSize, tableRefusal, places, stringRefusalIn}
+use Rattle.decoder_refusal.specs.Refusal.{tableRefusalIn}
 use Rattle.mealy.specs.LoopedPair.{LoopedPair, letters}
 use Rattle.coder.specs.Refusal.{first}
 use Rattle.coder.specs.File.{versionOf, countField, statesOf, inputsOf, outputsOf, entriesOf, fileOf, inRange, entriesRefusal, fileRefusal}
@@ -21,7 +22,10 @@ use Rattle.window_limits.specs.Refusal.{sidesRefusal, settleRefusal}
 use Rattle.search.specs.Search.{searchRefusal, searchRefusalIn}
 use Rattle.writer.specs.Write.{writeRefusal, writeRefusalIn}
 use Rattle.checker.specs.Check.{checkRefusal}
-use Rattle.published.specs.Published.{Rule, firstNumber, startRule, sidesRule, settleRule, numberRule, tableRule, Bytes, lent, longEnough, buffersRule, inputsRule, receivedRule, fileRules, partsRules, windowRules, givenRun, givenSearch, givenCheck, givenWindow, givenString, givenTable, givenWrite, resultGiven, follows, CallsInOrder}
+use Rattle.published.specs.Published.{Rule, firstNumber, startRule, sidesRule, settleRule, numberRule, tableRule, Bytes, lent}
+use Rattle.published.specs.Published.{longEnough, buffersRule, inputsRule, receivedRule, fileRules, partsRules, windowRules}
+use Rattle.published.specs.Published.{givenRun, givenSearch, givenCheck, givenWindow, givenString, givenTable, givenWrite}
+use Rattle.published.specs.Published.{resultGiven, follows, CallsInOrder}
 use Rattle.published.proofs.Rules.{first-joined, asked-both}
 
 -- ---- a coder: counts and entries, and a file

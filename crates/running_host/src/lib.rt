@@ -21,7 +21,8 @@ fn put(own: RunResult, result: &mut [u8]) -> usize
 
 // Runs the coder from a start state. The file's refusals, 7, 11, 12.
 pub fn run(file: &[u8], start: usize, input: &[u8], output: &mut [u8], result: &mut [u8]) -> usize
-    ensures { λ r. ⌜ RunFromHost (now (file .entry)) start (now (input .entry)) (now (output .entry)) (now (result .entry)) r (now (output .exit)) (now (result .exit)) ⌝ }
+    ensures { λ r. ⌜ RunFromHost (now (file .entry)) start (now (input .entry))
+        (now (output .entry)) (now (result .entry)) r (now (output .exit)) (now (result .exit)) ⌝ }
 {
     let own = running::inner::run(file, start, input, output, roomy(result.len()));
     put(own, result)

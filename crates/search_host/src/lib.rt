@@ -53,7 +53,8 @@ fn put(own: SearchResult, result: &mut [u8]) -> usize
 // Finds the least window with a settle count that works for a coder in the default order, or the first looped pair where none does.
 // The file's refusals, 14, 11.
 pub fn search(file: &[u8], settle: usize, letters: &mut [u8], result: &mut [u8]) -> usize
-    ensures { λ r. ⌜ SearchFromHost (now (file .entry)) settle (now (letters .entry)) (now (result .entry)) r (now (letters .exit)) (now (result .exit)) ⌝ }
+    ensures { λ r. ⌜ SearchFromHost (now (file .entry)) settle
+        (now (letters .entry)) (now (result .entry)) r (now (letters .exit)) (now (result .exit)) ⌝ }
 {
     let own = search::inner::search(file, Order::DEFAULT, settle, letters, roomy(result.len()));
     put(own, result)

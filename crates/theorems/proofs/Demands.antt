@@ -50,7 +50,8 @@ use Rattle.layout.specs.Host.{LaidOut, Handed}
 use Rattle.layout.proofs.Hosting.{no-fields, from-host, answered-host}
 use Rattle.published.specs.Published.{longEnough}
 use Rattle.theorems.specs.Demands.{Demand1, Said, byteSaid, SaidByte, Demand2, Demand3, NoLater, Demanded, FromC}
-use Rattle.published.proofs.Published.{file-published, run-published, search-published, check-published, window-published, string-published, table-published, write-published, result-published}
+use Rattle.published.proofs.Published.{file-published, run-published, search-published, check-published, window-published}
+use Rattle.published.proofs.Published.{string-published, table-published, write-published, result-published}
 use Rattle.theorems.proofs.Counted.{counted}
 use Rattle.theorems.proofs.HostReads.{first-read, search-found}
 use Rattle.theorems.proofs.RoundTrip.{round-trip}

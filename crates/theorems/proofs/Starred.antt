@@ -28,7 +28,8 @@ use Rattle.coder.specs.Limits.{maxSettle}
 use Rattle.coder.specs.Refusal.{allBelow, someBelow}
 use Rattle.coder.specs.BigEndian.{bigEndian}
 use Rattle.coder.specs.Alphabet.{named}
-use Rattle.coder.specs.File.{within, inRange, entryInRange, entriesRefusal, fileRefusal, fileOf, entryOf, statesOf, inputsOf, outputsOf, machineOf, settingOf, settingAfter}
+use Rattle.coder.specs.File.{within, inRange, entryInRange, entriesRefusal, fileRefusal, fileOf, entryOf, statesOf, inputsOf, outputsOf}
+use Rattle.coder.specs.File.{machineOf, settingOf, settingAfter}
 use Rattle.coder.specs.Table.{table, coderOf, tableAt}
 use Rattle.coder.proofs.Refusals.{true-false, both-true, all-at}
 use Rattle.coder.proofs.Accepted.{accepted}
@@ -51,7 +52,8 @@ use Rattle.fitting.specs.declared.Answer.the-variants.{Letter, None, Several}
 use Rattle.fitting.proofs.Answers.{right-unique, right-byte, right-byte-unique}
 use Rattle.filling.specs.Sets.{contribution, gather, add, added}
 use Rattle.filling.specs.Window.{pass, unionOf, decoded}
-use Rattle.decoder_refusal.specs.Refusal.{limitsRefusal, windowRefusal, stringRefusal, tableSize, tableRefusal, places, stringRefusalIn, tableRefusalIn}
+use Rattle.decoder_refusal.specs.Refusal.{limitsRefusal, windowRefusal, stringRefusal, tableSize, tableRefusal, places, stringRefusalIn}
+use Rattle.decoder_refusal.specs.Refusal.{tableRefusalIn}
 use Rattle.decoder.specs.Written.{Written}
 use Rattle.window_limits.specs.Refusal.{sidesRefusal, settleRefusal}
 use Rattle.decoder.specs.Window.{AnsweredRight}
@@ -72,7 +74,9 @@ use Rattle.checker.specs.Check.{checkRefusal, CheckedRight}
 use Rattle.checker.proofs.Determined.{checked-as}
 use Rattle.theorems.specs.Starred as claimed
 use Rattle.theorems.specs.Starred.{Claim, Case, Holds, AllHold, AllCases, starred}
-use Rattle.theorems.proofs.Tests.{sameList, same-list, allStarts, allWords, agree, worksTest, laterOrFails, leastTest, least-test, closesTest, validTest, test-valid, noEarlier, firstTest, first-size, first-test, differentTest, different-test}
+use Rattle.theorems.proofs.Tests.{sameList, same-list, allStarts, allWords, agree, worksTest, laterOrFails, leastTest, least-test}
+use Rattle.theorems.proofs.Tests.{closesTest, validTest, test-valid, noEarlier, firstTest, first-size, first-test, differentTest}
+use Rattle.theorems.proofs.Tests.{different-test}
 
 -- ---- the test of a claim
 
@@ -339,7 +343,10 @@ cases-hold (c ∷ cs) e =
     (z, claims-hold (c .file) z (c .claims) (u .0), cases-hold cs (u .1))
 
 passed : testCases starred ≡ true
-unfolding test entriesWord imageWord inStepsWord startsWord allStarts bigEndian checkRefusal windowRefusal stringRefusal tableRefusal runRefusal limitsRefusal sidesRefusal settleRefusal leastTest laterOrFails worksTest agree allWords noEarlier firstTest validTest closesTest differentTest allBelow someBelow named fileRefusal entriesRefusal inRange within entryInRange machineOf entryOf coderOf table tableAt decoded pass added add contribution gather unionOf answerOf leadingZeros hasKey isEntry over windowAt
+unfolding test entriesWord imageWord inStepsWord startsWord allStarts bigEndian checkRefusal windowRefusal stringRefusal tableRefusal
+    runRefusal limitsRefusal sidesRefusal settleRefusal leastTest laterOrFails worksTest agree allWords noEarlier firstTest validTest
+    closesTest differentTest allBelow someBelow named fileRefusal entriesRefusal inRange within entryInRange machineOf entryOf coderOf
+    table tableAt decoded pass added add contribution gather unionOf answerOf leadingZeros hasKey isEntry over windowAt
 passed = refl
 
 -- every starred case: its file is accepted, and all that is claimed of it holds

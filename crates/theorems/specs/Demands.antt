@@ -61,7 +61,8 @@ use Rattle.writer.specs.Write.{WriteWith}
 use Rattle.decoder_host.specs.Laid.{WindowFromHost}
 use Rattle.layout.specs.Layout.{withFields, fieldAt}
 use Rattle.layout.specs.Host.{Laid, refused, LaidOut, Handed, FromHost}
-use Rattle.published.specs.Published.{Rule, firstNumber, Bytes, longEnough, fileRules, givenRun, givenSearch, givenCheck, givenWindow, givenString, givenTable, givenWrite, resultGiven}
+use Rattle.published.specs.Published.{Rule, firstNumber, Bytes, longEnough, fileRules, givenRun, givenSearch, givenCheck, givenWindow}
+use Rattle.published.specs.Published.{givenString, givenTable, givenWrite, resultGiven}
 use Rattle.theorems.specs.RoundTrip.{LettersComeBack, LettersComeBackFromC}
 
 -- ---- demand 1: accepted and answered, or refused by number with nothing changed

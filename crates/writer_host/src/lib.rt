@@ -12,7 +12,8 @@ pub fn write(
     file: &mut [u8],
     result: &mut [u8],
 ) -> usize
-    ensures { λ r. ⌜ WriteFromHost states inputs outputs (now (entries .entry)) (now (file .entry)) (now (result .entry)) r (now (file .exit)) (now (result .exit)) ⌝ }
+    ensures { λ r. ⌜ WriteFromHost states inputs outputs (now (entries .entry))
+        (now (file .entry)) (now (result .entry)) r (now (file .exit)) (now (result .exit)) ⌝ }
 {
     let own = writer::inner::write(states, inputs, outputs, entries, file, roomy(result.len()));
     put_count(own, result)
