@@ -105,7 +105,8 @@ starred =
     record {
       file = 1 ∷ 0 ∷ 11 ∷ 2 ∷ 2 ∷ 2 ∷ 0 ∷ 0 ∷ 1 ∷ 1 ∷ 1 ∷ 1 ∷ 0 ∷ 0 ∷ [];
       claims = counts 2 2 2 ∷ written 2 2 2 (0 ∷ 0 ∷ 1 ∷ 1 ∷ 1 ∷ 1 ∷ 0 ∷ 0 ∷ []) ∷ window defaultOrder 1 0 0 ∷ window FewestLetters 1 0 0 ∷
-          table 1 0 0 (0 ∷ 1 ∷ 1 ∷ 0 ∷ []) ∷ string 1 0 0 (1 ∷ 0 ∷ 0 ∷ []) (1 ∷ 0 ∷ []) ∷ string 1 0 0 (1 ∷ []) [] ∷ run 0 (1 ∷ 1 ∷ 0 ∷ []) (1 ∷ 0 ∷ 0 ∷ []) 0 ∷ [];
+          table 1 0 0 (0 ∷ 1 ∷ 1 ∷ 0 ∷ []) ∷ string 1 0 0 (1 ∷ 0 ∷ 0 ∷ []) (1 ∷ 0 ∷ []) ∷ string 1 0 0 (1 ∷ []) [] ∷
+          run 0 (1 ∷ 1 ∷ 0 ∷ []) (1 ∷ 0 ∷ 0 ∷ []) 0 ∷ [];
     } ∷
     -- B, one state
     record { file = 1 ∷ 0 ∷ 7 ∷ 1 ∷ 2 ∷ 2 ∷ 0 ∷ 0 ∷ 0 ∷ 1 ∷ []; claims = window defaultOrder 0 0 0 ∷ window FewestLetters 0 0 0 ∷ [] } ∷
