@@ -1,7 +1,7 @@
 -- Unused output letters (document 02, 7/13), of each coder that a call is given: its rules give 15 exactly where no number from 1 to 6
 -- applies and its entries do not name the whole alphabet. So is a call refused with 15 that is given this coder first and no other,
 -- whatever else it is given; and a call that is not refused has a coder that names all letters. Over the published list; that each call
--- is refused as the list says stands in Demands.antt.
+-- is refused as the list says stands in theorems/specs/Demands.antt.
 use Prim.Native.Nat.{ℕ, _*_, _≤_}
 use mathlib.Core.Path.{_≡_}
 use mathlib.Core.Bool.{true}
