@@ -2,3 +2,4 @@
 pub mod Rules
 pub mod Published
 pub mod Alphabet
+pub mod Examples

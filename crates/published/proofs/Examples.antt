@@ -1,0 +1,68 @@
+-- The definitions that the list is ordered by, by computation: lists of numbers that follow the order and that do not, and which rules
+-- have number 15.
+use mathlib.Core.Path.{_≡_, refl}
+use mathlib.Core.Bool.{true, false}
+use mathlib.Core.List.{List, [], _∷_}
+use Prim.Native.Nat.{ℕ}
+use Rattle.values.specs.declared.Window.{Window}
+use Rattle.published.specs.Published.{without, order, follows, Bytes, startRule, settleRule, numberRule, tableRule, buffersRule}
+use Rattle.published.specs.Published.{inputsRule, receivedRule, fileRules, partsRules, windowRules}
+
+-- in the order, which is not that of the numbers themselves; with numbers left out
+pub in-order : follows (6 ∷ 15 ∷ 7 ∷ 14 ∷ 9 ∷ 13 ∷ []) order ≡ true
+unfolding follows
+in-order = refl
+
+-- a number may stand twice, side by side and not otherwise
+pub twice : follows (7 ∷ 7 ∷ 9 ∷ []) order ≡ true
+unfolding follows
+twice = refl
+
+pub again : follows (7 ∷ 9 ∷ 7 ∷ []) order ≡ false
+unfolding follows
+again = refl
+
+-- two exchanged
+pub exchanged : follows (9 ∷ 14 ∷ []) order ≡ false
+unfolding follows
+exchanged = refl
+
+-- a number that the list does not have
+pub not-listed : follows (13 ∷ 16 ∷ []) order ≡ false
+unfolding follows
+not-listed = refl
+
+-- A coder's rules have number 15; the rules behind them, of each call, do not, whatever it is given.
+pub file-has : (f : List ℕ) → without 15 (fileRules f) ≡ false
+file-has f = refl
+
+pub parts-have : (n i o : ℕ) (entries : List ℕ) → without 15 (partsRules n i o entries) ≡ false
+parts-have n i o entries = refl
+
+pub run-without :
+    (f xs : List ℕ) (s : ℕ) (bs : List Bytes) → without 15 (startRule f s ∷ buffersRule bs ∷ inputsRule f xs ∷ []) ≡ true
+run-without f xs s bs = refl
+
+pub search-without : (p : ℕ) (bs : List Bytes) → without 15 (settleRule p ∷ buffersRule bs ∷ []) ≡ true
+search-without p bs = refl
+
+pub check-without :
+    (f xs : List ℕ) (s t n m : ℕ) (bs : List Bytes) →
+    without 15 (startRule f s ∷ startRule f t ∷ numberRule n m ∷ buffersRule bs ∷ inputsRule f xs ∷ []) ≡ true
+check-without f xs s t n m bs = refl
+
+pub window-without :
+    (f xs : List ℕ) (w : Window) (n m : ℕ) (bs : List Bytes) →
+    without 15 (windowRules w (numberRule n m ∷ buffersRule bs ∷ receivedRule f xs ∷ [])) ≡ true
+window-without f xs w n m bs = refl
+
+pub string-without :
+    (f xs : List ℕ) (w : Window) (bs : List Bytes) → without 15 (windowRules w (buffersRule bs ∷ receivedRule f xs ∷ [])) ≡ true
+string-without f xs w bs = refl
+
+pub table-without :
+    (f : List ℕ) (w : Window) (bs : List Bytes) → without 15 (windowRules w (tableRule f w ∷ buffersRule bs ∷ [])) ≡ true
+table-without f w bs = refl
+
+pub write-without : (bs : List Bytes) → without 15 (buffersRule bs ∷ []) ≡ true
+write-without bs = refl
