@@ -43,7 +43,7 @@ extern "C" {
 #endif
 
 /* The version of this header and of the library; make and pkg-config take it from here. */
-#define LOWHENITA_VERSION "1.7"
+#define LOWHENITA_VERSION "1.8"
 
 /* Limits of a coder: states, input letters, output letters; the bytes of its file. */
 #define LOWHENITA_MAX_STATES 16
@@ -68,6 +68,16 @@ extern "C" {
 #define LOWHENITA_WINDOW 0
 #define LOWHENITA_LOOPED_PAIR 1
 
+/* Field 0 of a search for kinds. */
+#define LOWHENITA_KINDS_TOLD 0
+#define LOWHENITA_KINDS_CANNOT 1
+
+/* Field 0 of a window decoded by kinds. */
+#define LOWHENITA_KINDS_LETTER 0
+#define LOWHENITA_KINDS_KIND 1
+#define LOWHENITA_KINDS_NONE 2
+#define LOWHENITA_KINDS_SEVERAL 3
+
 /* The stack that is enough for every call. docs/c-interface.md has what was measured, and how. */
 #define LOWHENITA_STACK_BYTES 65536
 
@@ -80,6 +90,7 @@ extern "C" {
 #define LOWHENITA_REFUSED_ENTRY 6
 #define LOWHENITA_REFUSED_UNUSED_OUTPUT 15
 #define LOWHENITA_REFUSED_START_STATE 7
+#define LOWHENITA_REFUSED_KINDS 16
 #define LOWHENITA_REFUSED_WINDOW_SIDE 8
 #define LOWHENITA_REFUSED_SETTLE_COUNT 14
 #define LOWHENITA_REFUSED_NUMBER_OF_LETTERS 9
@@ -110,6 +121,8 @@ static inline const char *lowhenita_refusal_text(size_t number)
         return "Some letter below O is put out by no entry.";
     case LOWHENITA_REFUSED_START_STATE:
         return "There is no such start state.";
+    case LOWHENITA_REFUSED_KINDS:
+        return "The kind list is not I bytes, or has a kind that is I or above.";
     case LOWHENITA_REFUSED_WINDOW_SIDE:
         return "A window has more than 136 letters on one side.";
     case LOWHENITA_REFUSED_SETTLE_COUNT:
@@ -205,6 +218,38 @@ size_t lowhenita_window(const uint8_t *file, size_t file_len,
                         size_t before, size_t after, size_t settle,
                         const uint8_t *received, size_t received_len,
                         uint8_t *result, size_t result_len);
+
+/*
+ * Finds the window by which kinds of letter are told. `kinds` has one byte for each input letter, its kind, a number below I. A window
+ * tells two letters apart if no two runs from reachable states with equal outputs at every place have one and the other as their present
+ * letter; it need not work for letters. All windows here have settle count 0. A kind is carried if some window, each kind its own, tells
+ * its letters apart; so is a kind below I that no letter has, and one that a single letter has.
+ * Field 0: LOWHENITA_KINDS_TOLD; then fields 1 and 2: the letters before and after the present one, of the least window in the order of
+ * least lookahead that tells apart letters of different kinds and different letters of each carried kind; field 3: the carried kinds, bit
+ * k for kind k.
+ * Field 0: LOWHENITA_KINDS_CANNOT: no window of any size tells letters of different kinds apart; no other field is written.
+ * Refusals, in checking order: 1 to 6, 15, 16 (kinds_len is not I, or a kind is not below I), 11 (result).
+ */
+size_t lowhenita_search_kinds(const uint8_t *file, size_t file_len,
+                              const uint8_t *kinds, size_t kinds_len,
+                              uint8_t *result, size_t result_len);
+
+/*
+ * Decodes one window of before + 1 + after received letters, with settle count 0, to a letter or to a kind. Any window will do. With the
+ * one that lowhenita_search_kinds gives for these kinds, what a run from a reachable state has sent gives the letter or its kind at every
+ * place with a full window, and the letter where its kind is carried.
+ * Field 0: LOWHENITA_KINDS_LETTER where one letter alone fits, whatever its kind; then field 1: the letter.
+ * Field 0: LOWHENITA_KINDS_KIND where several fit and are of one kind; then field 1: the kind.
+ * Field 0: LOWHENITA_KINDS_NONE where no letter fits, LOWHENITA_KINDS_SEVERAL where letters of several kinds fit; no other field is
+ * written.
+ * Refusals, in checking order: 1 to 6, 15, 16 (kinds_len is not I, or a kind is not below I), 8, 9 (received_len is not
+ * before + 1 + after), 11 (result), 13.
+ */
+size_t lowhenita_window_kinds(const uint8_t *file, size_t file_len,
+                              const uint8_t *kinds, size_t kinds_len,
+                              size_t before, size_t after,
+                              const uint8_t *received, size_t received_len,
+                              uint8_t *result, size_t result_len);
 
 /*
  * Fills the decoder table of a window: one byte for each window of before + 1 + after letters, at its index, whose highest digit to

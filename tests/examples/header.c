@@ -6,7 +6,7 @@
 #include <stdio.h>
 #include <string.h>
 
-enum { REFUSALS = 15 };
+enum { REFUSALS = 16 };
 
 /* Running parity: 2 states, 2 input letters, 2 output letters. */
 static const uint8_t parity[] = {1, 0, 11, 2, 2, 2, 0, 0, 1, 1, 1, 1, 0, 0};
@@ -128,6 +128,33 @@ static void unused_outputs(void)
     expect_refusal(lowhenita_table(file, n, 137, 0, 65, bytes, 0, result, 0), LOWHENITA_REFUSED_UNUSED_OUTPUT);
 }
 
+/* The two calls that take a kind list: a byte too few and too many, a kind that there is not, at either end; it comes before what concerns
+   a window. */
+static void kind_lists(void)
+{
+    static const uint8_t kinds[] = {1, 0, 0}, high[] = {2, 0}, last[] = {0, 255}, two[] = {2, 2};
+    const size_t n = sizeof parity;
+
+    expect_refusal(lowhenita_search_kinds(parity, n, kinds, 2, result, sizeof result), 0);
+    expect_refusal(lowhenita_search_kinds(parity, n, kinds, 1, result, sizeof result), LOWHENITA_REFUSED_KINDS);
+    expect_refusal(lowhenita_search_kinds(parity, n, kinds, 3, result, sizeof result), LOWHENITA_REFUSED_KINDS);
+    expect_refusal(lowhenita_search_kinds(parity, n, NULL, 0, result, sizeof result), LOWHENITA_REFUSED_KINDS);
+    expect_refusal(lowhenita_search_kinds(parity, n, high, 2, result, sizeof result), LOWHENITA_REFUSED_KINDS);
+    expect_refusal(lowhenita_search_kinds(parity, n, last, 2, result, sizeof result), LOWHENITA_REFUSED_KINDS);
+    expect_refusal(lowhenita_search_kinds(parity, n, kinds, 1, result, 0), LOWHENITA_REFUSED_KINDS);
+    expect_refusal(lowhenita_search_kinds(parity, n, kinds, 2, result, sizeof result - 1), LOWHENITA_REFUSED_SHORT_BUFFER);
+    expect_refusal(lowhenita_window_kinds(parity, n, kinds, 2, 1, 0, kinds, 2, result, sizeof result), 0);
+    expect_refusal(lowhenita_window_kinds(parity, n, kinds, 3, 137, 0, two, 1, result, 0), LOWHENITA_REFUSED_KINDS);
+    expect_refusal(lowhenita_window_kinds(parity, n, high, 2, 0, 137, two, 1, result, 0), LOWHENITA_REFUSED_KINDS);
+    expect_refusal(lowhenita_window_kinds(parity, n, kinds, 2, 137, 0, two, 1, result, 0), LOWHENITA_REFUSED_WINDOW_SIDE);
+    expect_refusal(lowhenita_window_kinds(parity, n, kinds, 2, 1, 0, two, 1, result, 0), LOWHENITA_REFUSED_NUMBER_OF_LETTERS);
+    expect_refusal(lowhenita_window_kinds(parity, n, kinds, 2, 1, 0, two, 2, result, 63), LOWHENITA_REFUSED_SHORT_BUFFER);
+    expect_refusal(lowhenita_window_kinds(parity, n, kinds, 2, 1, 0, two, 2, result, 64), LOWHENITA_REFUSED_RECEIVED_LETTER);
+    search_changed(5, 3, n);
+    expect_refusal(lowhenita_search_kinds(file, n, high, 2, result, 0), LOWHENITA_REFUSED_UNUSED_OUTPUT);
+    expect_refusal(lowhenita_window_kinds(file, n, high, 2, 137, 0, two, 1, result, 0), LOWHENITA_REFUSED_UNUSED_OUTPUT);
+}
+
 /* The four calls that take a settle count: the largest, and one above it, which comes before a wrong number of letters and short buffers
    and after a side that is too large. */
 static void settle_counts(void)
@@ -161,6 +188,7 @@ static void rows(void)
     ROW(ENTRY);
     ROW(UNUSED_OUTPUT);
     ROW(START_STATE);
+    ROW(KINDS);
     ROW(WINDOW_SIDE);
     ROW(SETTLE_COUNT);
     ROW(NUMBER_OF_LETTERS);
@@ -181,6 +209,7 @@ int main(int argc, char **argv)
     texts();
     refusals();
     unused_outputs();
+    kind_lists();
     settle_counts();
     writing();
     printf("%lu passed, %lu failed\n", passed, failed);

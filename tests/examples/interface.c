@@ -9,6 +9,7 @@ static const uint8_t a[] = {1, 0, 11, 2, 2, 2, 0, 0, 1, 1, 1, 1, 0, 0};
 static const uint8_t c[] = {1, 0, 7, 1, 2, 1, 0, 0, 0, 0};
 static const uint8_t g[] = {1, 0, 19, 4, 2, 6, 1, 4, 1, 5, 2, 0, 3, 0, 2, 0, 2, 1, 3, 2, 3, 3};
 static const uint8_t h[] = {1, 0, 11, 2, 2, 2, 0, 0, 0, 1, 1, 0, 1, 0};
+static const uint8_t k[] = {1, 0, 19, 2, 4, 3, 0, 0, 1, 1, 0, 2, 0, 2, 1, 1, 0, 0, 0, 2, 0, 2};
 static uint8_t result[64], other[64], letters[1026], out[4];
 static unsigned passed, failed;
 
@@ -117,6 +118,40 @@ static void window(void)
     HOLDS(lowhenita_field(result, 0) == 0);
 }
 
+static void kinds(void)
+{
+    static const uint8_t data_and_filler[] = {0, 0, 1, 1}, one_kind[] = {0, 0, 0, 0}, each[] = {0, 1, 2, 3}, high[] = {0, 0, 4, 1};
+    static const uint8_t received[] = {2, 1, 2, 3};
+
+    HOLDS(lowhenita_search(k, sizeof k, 0, letters, 1026, result, 64) == 0);
+    HOLDS(lowhenita_field(result, 0) == LOWHENITA_LOOPED_PAIR);
+    HOLDS(lowhenita_search_kinds(k, sizeof k, data_and_filler, 4, result, 64) == 0);
+    HOLDS(lowhenita_field(result, 0) == LOWHENITA_KINDS_TOLD);
+    HOLDS(lowhenita_field(result, 1) == 1);
+    HOLDS(lowhenita_field(result, 2) == 0);
+    HOLDS(lowhenita_field(result, 3) == 13);
+    HOLDS(lowhenita_search_kinds(k, sizeof k, one_kind, 4, result, 64) == 0);
+    HOLDS(lowhenita_field(result, 0) == LOWHENITA_KINDS_TOLD);
+    HOLDS(lowhenita_field(result, 1) == 0);
+    HOLDS(lowhenita_field(result, 2) == 0);
+    HOLDS(lowhenita_field(result, 3) == 14);
+    HOLDS(lowhenita_search_kinds(k, sizeof k, each, 4, result, 64) == 0);
+    HOLDS(lowhenita_field(result, 0) == LOWHENITA_KINDS_CANNOT);
+    HOLDS(lowhenita_field(result, 3) == 14);
+    HOLDS(lowhenita_search_kinds(k, sizeof k, high, 4, result, 64) == LOWHENITA_REFUSED_KINDS);
+    HOLDS(lowhenita_search_kinds(k, sizeof k, each, 3, result, 64) == LOWHENITA_REFUSED_KINDS);
+
+    HOLDS(lowhenita_window_kinds(k, sizeof k, data_and_filler, 4, 1, 0, received, 2, result, 64) == 0);
+    HOLDS(lowhenita_field(result, 0) == LOWHENITA_KINDS_LETTER);
+    HOLDS(lowhenita_field(result, 1) == 1);
+    HOLDS(lowhenita_window_kinds(k, sizeof k, data_and_filler, 4, 1, 0, received + 1, 2, result, 64) == 0);
+    HOLDS(lowhenita_field(result, 0) == LOWHENITA_KINDS_KIND);
+    HOLDS(lowhenita_field(result, 1) == 1);
+    HOLDS(lowhenita_window_kinds(k, sizeof k, each, 4, 1, 0, received + 1, 2, result, 64) == 0);
+    HOLDS(lowhenita_field(result, 0) == LOWHENITA_KINDS_SEVERAL);
+    HOLDS(lowhenita_window_kinds(k, sizeof k, each, 4, 1, 0, received + 2, 2, result, 64) == LOWHENITA_REFUSED_RECEIVED_LETTER);
+}
+
 static void table(void)
 {
     memset(out, 9, sizeof out);
@@ -155,6 +190,7 @@ int main(void)
     decode();
     check();
     window();
+    kinds();
     table();
     writing();
     printf("%u passed, %u failed\n", passed, failed);

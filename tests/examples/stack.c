@@ -11,17 +11,18 @@
 
 /* OWN: the bytes below its mark that the measuring function may use itself, and leaves unpainted. */
 enum { ROOM = 1 << 18, OWN = 256, PAINT = 0xA5, STRING = 1000 };
-enum { RUN, SEARCH, DECODE, CHECK, WINDOW, TABLE, WRITE, CALLS };
+enum { RUN, SEARCH, DECODE, CHECK, WINDOW, SEARCH_KINDS, WINDOW_KINDS, TABLE, WRITE, CALLS };
 
-static const char *const names[CALLS] = {"run", "search", "decode", "check", "window", "table", "write"};
+static const char *const names[CALLS] = {"run", "search", "decode", "check", "window", "search_kinds", "window_kinds", "table", "write"};
 static uint8_t *stack;
 static uint8_t letters[LOWHENITA_SEARCH_BYTES], bytes[LOWHENITA_MAX_TABLE_BYTES], result[LOWHENITA_RESULT_BYTES];
-static uint8_t zeros[STRING];
+static uint8_t zeros[STRING], kinds[LOWHENITA_MAX_INPUTS];
 static const coder_file *coder;
 static size_t before, after, settle, most[CALLS], accepted[CALLS];
 static int call;
 
-/* Every received letter is 0, an output letter of every coder; the pair to be checked is the one that the last search has found. */
+/* Every received letter is 0, an output letter of every coder; the pair to be checked is the one that the last search has found. Letters
+   2 k and 2 k + 1 have the kind k. */
 static size_t one_call(void)
 {
     static size_t pair[6], n;
@@ -44,6 +45,10 @@ static size_t one_call(void)
         return lowhenita_check(f, len, pair[0], pair[1], pair[2], pair[3], pair[4], pair[5], letters, 2 * n, result, sizeof result);
     case WINDOW:
         return lowhenita_window(f, len, before, after, settle, zeros, before + 1 + after, result, sizeof result);
+    case SEARCH_KINDS:
+        return lowhenita_search_kinds(f, len, kinds, f[4], result, sizeof result);
+    case WINDOW_KINDS:
+        return lowhenita_window_kinds(f, len, kinds, f[4], before, after, zeros, before + 1 + after, result, sizeof result);
     case WRITE:
         return lowhenita_write(f[3], f[4], f[5], f + 6, len - 6, bytes, sizeof bytes, result, sizeof result);
     default:
@@ -76,6 +81,11 @@ static int on_own_stack(void)
            && pthread_create(&thread, &attributes, measured, NULL) == 0 && pthread_join(thread, NULL) == 0;
 }
 
+static int takes_window(int c)
+{
+    return c == DECODE || c == WINDOW || c == WINDOW_KINDS || c == TABLE;
+}
+
 static int all_calls(const coder_file *f)
 {
     static const size_t windows[][3] = {{0, 0, 0}, {1, 0, 64}, {0, 1, 1}, {7, 8, 0}, {15, 0, 2}, {0, 15, 64}, {136, 0, 15}, {0, 136, 64},
@@ -84,7 +94,7 @@ static int all_calls(const coder_file *f)
 
     coder = f;
     for (call = 0; call < CALLS; call++)
-        for (k = 0; k < (call == SEARCH ? 2 : call == DECODE || call == WINDOW || call == TABLE ? sizeof windows / sizeof *windows : 1); k++) {
+        for (k = 0; k < (call == SEARCH ? 2 : takes_window(call) ? sizeof windows / sizeof *windows : 1); k++) {
             before = windows[k][0];
             after = windows[k][1];
             settle = windows[k][2];
@@ -106,6 +116,8 @@ int main(void)
     if (stack == MAP_FAILED)
         return 1;
     random_seed(1);
+    for (k = 0; k < LOWHENITA_MAX_INPUTS; k++)
+        kinds[k] = (uint8_t)(k / 2);
     for (k = 0; k < EXAMPLES; k++) {
         make_example(k, &e);
         fine = fine && all_calls(&e.file);
@@ -122,7 +134,7 @@ int main(void)
     make_closed_both(&f, 16, 13);
     fine = fine && all_calls(&f);
     for (k = 0; k < CALLS; k++) {
-        printf("%-6s %5lu bytes of stack, %lu calls accepted\n", names[k], (unsigned long)most[k], (unsigned long)accepted[k]);
+        printf("%-12s %5lu bytes of stack, %lu calls accepted\n", names[k], (unsigned long)most[k], (unsigned long)accepted[k]);
         fine = fine && accepted[k] > 0 && most[k] < LOWHENITA_STACK_BYTES;
     }
     return fine ? 0 : 1;

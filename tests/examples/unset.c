@@ -39,7 +39,7 @@ static void look(size_t refusal, size_t written, size_t fields)
 
 static void all_calls(const uint8_t *file, size_t len, size_t settle, size_t past)
 {
-    static const uint8_t letters[STRING];
+    static const uint8_t letters[STRING], kinds[LOWHENITA_MAX_INPUTS] = {0, 0, 1, 1, 2, 2, 3, 3, 4, 4, 5, 5, 6, 6, 7, 7};
     size_t refusal, n = 0, k;
 
     lend();
@@ -56,6 +56,12 @@ static void all_calls(const uint8_t *file, size_t len, size_t settle, size_t pas
     look(lowhenita_check(file, len, 0, 0, 1, 0, 0, 1, letters, 6, result, LOWHENITA_RESULT_BYTES), 0, 1);
     lend();
     look(lowhenita_window(file, len, 3, 4, settle, letters, 8, result, LOWHENITA_RESULT_BYTES), 0, 1);
+    lend();
+    refusal = lowhenita_search_kinds(file, len, kinds, file[4], result, LOWHENITA_RESULT_BYTES);
+    look(refusal, 0, lowhenita_field(result, 0) == LOWHENITA_KINDS_TOLD ? 4 : 1);
+    lend();
+    refusal = lowhenita_window_kinds(file, len, kinds, file[4], 3, 4, letters, 8, result, LOWHENITA_RESULT_BYTES);
+    look(refusal, 0, lowhenita_field(result, 0) <= LOWHENITA_KINDS_KIND ? 2 : 1);
     lend();
     refusal = lowhenita_table(file, len, 1, 0, settle, bytes, ROOM, result, LOWHENITA_RESULT_BYTES);
     look(refusal, (size_t)lowhenita_field(result, 0) + past, 1);

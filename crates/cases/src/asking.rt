@@ -29,10 +29,14 @@ pub(crate) const WINDOW: usize = 9;
 
 pub(crate) const CHECK: usize = 10;
 
-pub(crate) const FILE: usize = 11;
+pub(crate) const KINDS: usize = 11;
 
-// A call by its number; the last six numbers that it is given, f the last; where its list of bytes begins and ends; and the place after
-// all.
+pub(crate) const DECODE_KINDS: usize = 12;
+
+pub(crate) const FILE: usize = 13;
+
+// A call by its number; the last six numbers that it is given, f the last; where its list of bytes begins and ends, and the list before
+// that; and the place after all.
 pub(crate) struct Request {
     pub(crate) call: usize,
     pub(crate) a: usize,
@@ -41,13 +45,15 @@ pub(crate) struct Request {
     pub(crate) d: usize,
     pub(crate) e: usize,
     pub(crate) f: usize,
+    pub(crate) first_from: usize,
+    pub(crate) first_to: usize,
     pub(crate) from: usize,
     pub(crate) to: usize,
     pub(crate) at: usize,
 }
 
 // The forms of the lines, in the order of the calls' numbers: `#` stands for a number, `@` for a list of bytes, a space for blanks.
-fn forms() -> [u8; 242] {
+fn forms() -> [u8; 283] {
     *b"run # on @into # = \n\
     string # # # on @into # = \n\
     table # # # into # = \n\
@@ -59,6 +65,8 @@ fn forms() -> [u8; 242] {
     entries = \n\
     window # # # on @= \n\
     check # # # # # # on @= \n\
+    kinds on @= \n\
+    decode_kinds # # by @on @= \n\
     file @\n"
 }
 
@@ -82,6 +90,8 @@ fn sign(form: u8, line: &[u8], q: Request) -> Request {
             d: q.e,
             e: q.f,
             f: v.value,
+            first_from: q.first_from,
+            first_to: q.first_to,
             from: q.from,
             to: q.to,
             at: v.next,
@@ -97,6 +107,8 @@ fn sign(form: u8, line: &[u8], q: Request) -> Request {
             d: q.d,
             e: q.e,
             f: q.f,
+            first_from: q.from,
+            first_to: q.to,
             from: q.at,
             to: to,
             at: to,
@@ -111,6 +123,8 @@ fn sign(form: u8, line: &[u8], q: Request) -> Request {
         d: q.d,
         e: q.e,
         f: q.f,
+        first_from: q.first_from,
+        first_to: q.first_to,
         from: q.from,
         to: q.to,
         at,
@@ -127,6 +141,8 @@ fn by_form(forms: &[u8], from: usize, call: usize, line: &[u8]) -> Request {
         d: 0,
         e: 0,
         f: 0,
+        first_from: 0,
+        first_to: 0,
         from: 0,
         to: 0,
         at: 0,

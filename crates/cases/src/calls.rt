@@ -95,8 +95,41 @@ fn check(file: &[u8], p: LoopedPair, letters: &[u8]) -> Got {
     }
 }
 
+// What the search for kinds gave.
+fn kinds(file: &[u8], list: &[u8]) -> Got {
+    match search_kinds::search_kinds(file, list) {
+        search_kinds::KindsResult::Refused(k) => got::short(got::REFUSED, k, 0, 0),
+        search_kinds::KindsResult::Found(v) => match v {
+            search_kinds::KindsVerdict::Cannot => got::short(got::CANNOT, 0, 0, 0),
+            search_kinds::KindsVerdict::Told { carried, window } => got::short(
+                got::TOLD,
+                window.before,
+                window.after,
+                carried as usize,
+            ),
+        },
+    }
+}
+
+fn kinds_answer(a: window_kinds::KindsAnswer) -> Got {
+    match a {
+        window_kinds::KindsAnswer::Letter(x) => got::short(got::LETTER, x as usize, 0, 0),
+        window_kinds::KindsAnswer::Kind(k) => got::short(got::KIND, k as usize, 0, 0),
+        window_kinds::KindsAnswer::None => got::short(got::NONE, 0, 0, 0),
+        window_kinds::KindsAnswer::Several => got::short(got::SEVERAL, 0, 0, 0),
+    }
+}
+
+// What the decoder of kinds gave.
+fn decode_kinds(file: &[u8], list: &[u8], before: usize, after: usize, received: &[u8]) -> Got {
+    match window_kinds::window_kinds(file, list, before, after, received) {
+        window_kinds::WindowKindsResult::Refused(k) => got::short(got::REFUSED, k, 0, 0),
+        window_kinds::WindowKindsResult::Answered(a) => kinds_answer(a),
+    }
+}
+
 // A call that is lent no buffer.
-fn plain(q: Request, file: &[u8], input: &[u8]) -> Got {
+fn plain(q: Request, file: &[u8], first: &[u8], input: &[u8]) -> Got {
     if q.call == asking::COUNTS {
         return counts(file);
     }
@@ -119,11 +152,17 @@ fn plain(q: Request, file: &[u8], input: &[u8]) -> Got {
         };
         return check(file, p, input);
     }
+    if q.call == asking::KINDS {
+        return kinds(file, input);
+    }
+    if q.call == asking::DECODE_KINDS {
+        return decode_kinds(file, first, q.e, q.f, input);
+    }
     got::short(got::BYTES, 0, 0, 0)
 }
 
-// A call with its lent buffer.
-pub(crate) fn make(q: Request, file: &[u8], input: &[u8], lent: &mut [u8]) -> Got {
+// A call with its lent buffer, and its lists of bytes, of which most calls have the last alone.
+pub(crate) fn make(q: Request, file: &[u8], first: &[u8], input: &[u8], lent: &mut [u8]) -> Got {
     let w = Window {
         before: q.c,
         after: q.d,
@@ -145,5 +184,5 @@ pub(crate) fn make(q: Request, file: &[u8], input: &[u8], lent: &mut [u8]) -> Go
     if q.call <= asking::FEWEST_LETTERS {
         return search(file, q.call, q.e, lent);
     }
-    plain(q, file, input)
+    plain(q, file, first, input)
 }

@@ -30,13 +30,19 @@ pub(crate) const NO: usize = 11;
 
 pub(crate) const PAIR: usize = 12;
 
-pub(crate) const UNREADABLE: usize = 13;
+pub(crate) const TOLD: usize = 13;
 
-pub(crate) const CASE: usize = 14;
+pub(crate) const CANNOT: usize = 14;
 
-pub(crate) const TOTAL: usize = 15;
+pub(crate) const KIND: usize = 15;
 
-pub(crate) const LONG: usize = 16;
+pub(crate) const UNREADABLE: usize = 16;
+
+pub(crate) const CASE: usize = 17;
+
+pub(crate) const TOTAL: usize = 18;
+
+pub(crate) const LONG: usize = 19;
 
 // The number of a form, and the numbers that stand in it.
 pub(crate) struct Got {
@@ -63,7 +69,7 @@ pub(crate) fn short(form: usize, a: usize, b: usize, c: usize) -> Got {
 }
 
 // The forms, in the order of their numbers: `#` stands for a space and a number, `@` for a list of bytes with a space before each.
-fn forms() -> [u8; 227] {
+fn forms() -> [u8; 248] {
     *b"refused#\n\
     refused#, buffer@\n\
     coder###\n\
@@ -77,6 +83,9 @@ fn forms() -> [u8; 227] {
     yes\n\
     no\n\
     no decoder######, buffer@\n\
+    told###\n\
+    cannot\n\
+    kind#\n\
     cannot be read\n\
     case#: \n\
     cases#, differ#\n\

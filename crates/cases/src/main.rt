@@ -53,17 +53,20 @@ fn holds(number: usize, line: &[u8], at: usize, g: Got, bytes: &[u8]) -> bool {
     differs(number, line, g, bytes)
 }
 
-// The bytes that a call is given, put into a buffer; how many they are.
-fn bytes(q: Request, line: &[u8], into: &mut [u8]) -> usize {
-    if q.from == 0 {
+// The bytes of a list of a call, put into a buffer; how many they are. A call that has no such list has none.
+fn bytes(line: &[u8], from: usize, to: usize, into: &mut [u8]) -> usize {
+    if from == 0 {
         return 0;
     }
-    list(part(line, q.from, q.to), into)
+    list(part(line, from, to), into)
 }
 
-// The place of what a line expects; NOWHERE where the line, the file of n bytes, or the m bytes of the call could not be read.
-fn place(q: Request, n: usize, m: usize) -> usize {
+// The place of what a line expects; NOWHERE where the line, the file of n bytes, or the k and m bytes of the call could not be read.
+fn place(q: Request, n: usize, k: usize, m: usize) -> usize {
     if n == NOWHERE {
+        return NOWHERE;
+    }
+    if k == NOWHERE {
         return NOWHERE;
     }
     if m == NOWHERE {
@@ -79,6 +82,7 @@ fn make(
     at: usize,
     q: Request,
     file: &[u8],
+    first: &[u8],
     input: &[u8],
     buffer: &mut [u8],
 ) -> bool {
@@ -93,7 +97,7 @@ fn make(
         );
     }
     let lent = &mut buffer[0..n];
-    let g = calls::make(q, file, input, lent);
+    let g = calls::make(q, file, first, input, lent);
     if q.call == asking::ENTRIES {
         return holds(number, line, at, g, reader::entries(file));
     }
@@ -103,17 +107,20 @@ fn make(
 // A case, on the file that the line `given` gives after its first five bytes. Every byte that is lent to its call is 238.
 fn case(number: usize, line: &[u8], given: &[u8]) -> bool {
     let mut file = [0u8; 1024];
+    let mut first = [0u8; 1024];
     let mut input = [0u8; 1024];
     let mut buffer = [238u8; 65537];
     let q = asking::asked(line);
     let n = list(part(given, 5, given.len()), &mut file);
-    let m = bytes(q, line, &mut input);
+    let k = bytes(line, q.first_from, q.first_to, &mut first);
+    let m = bytes(line, q.from, q.to, &mut input);
     make(
         number,
         line,
-        place(q, n, m),
+        place(q, n, k, m),
         q,
         part(&file, 0, n),
+        part(&first, 0, k),
         part(&input, 0, m),
         &mut buffer,
     )

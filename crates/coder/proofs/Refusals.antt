@@ -121,6 +121,18 @@ all-not (suc n) p k l e =
     ⊎-elim (λ (q : k ≡ n). rw (← q, e)) (λ (q : k < n). both-false (p n) (allBelow n p) (all-not n p k q e))
     (eq-or-lt-of-le (le-of-suc-le-suc l))
 
+-- a test of all that fails, fails somewhere
+pub all-fails : (n : ℕ) (p : ℕ → Bool) → allBelow n p ≡ false → (k : ℕ) × (k < n) × (p k ≡ false)
+unfolding allBelow
+all-fails zero p e = absurd (true-false refl e)
+all-fails (suc n) p e = go (p n) refl (all-fails n p) e
+  where
+    go :
+        (t : Bool) → p n ≡ t → (allBelow n p ≡ false → (k : ℕ) × (k < n) × (p k ≡ false)) → (t && allBelow n p) ≡ false →
+        (k : ℕ) × (k < suc n) × (p k ≡ false)
+    go false q f d = (n, omega arith, q)
+    go true q f d = let r = f d in (r .0, omega (arith, r .1), r .2)
+
 pub all-of : (n : ℕ) (p : ℕ → Bool) → ((k : ℕ) → k < n → p k ≡ true) → allBelow n p ≡ true
 unfolding allBelow
 all-of zero p h = refl

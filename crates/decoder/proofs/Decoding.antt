@@ -1,10 +1,12 @@
--- What the decoder's core gives on the tables of an accepted file: right answers and right bytes.
+-- What the decoder's core gives on the tables of an accepted file: the letters that fit, right answers and right bytes.
 use mathlib.Core.Path.{_≡_, refl, sym, ap, subst}
 use mathlib.Core.List.{List, _++_}
 use Prim.Native.Nat.{ℕ, _^_, _≤_, _<_}
 use lib.ListN.{length, take, drop}
 use Rattle.mealy.specs.Setting.{Bounded, afterLetters}
-use Rattle.mealy.proofs.SameSettings.{answers-same}
+use Rattle.mealy.specs.Answer.{Fits}
+use Rattle.mealy.proofs.Words.{holds-map}
+use Rattle.mealy.proofs.SameSettings.{fits-same, same-sym}
 use Rattle.mealy.specs.Index.{windowAt}
 use Rattle.mealy.specs.Word.{Holds}
 use Rattle.coder.specs.File.{fileRefusal, outputsOf, machineOf, settingAfter}
@@ -18,14 +20,13 @@ use Rattle.setting.proofs.Same.{coder-sound, coder-machine, same-word, word-bou
 use Rattle.chains.specs.Chain.{Keys}
 use Rattle.chains.proofs.Entries.{output-keys}
 use Rattle.chains.specs.Rows.{Rowed}
-use Rattle.fitting.specs.Answer.{Right, RightByte, meaning}
-use Rattle.fitting.specs.declared.Answer.{Answer}
-use Rattle.fitting.proofs.Answers.{byte-same}
+use Rattle.fitting.specs.Answer.{Right, RightByte}
+use Rattle.fitting.proofs.Answers.{holds-right, byte-same}
 use Rattle.filling.specs.Sets.{RowsOf}
 use Rattle.filling.specs.Table.{TableFilled}
 use Rattle.fitting.specs.Tables.{SetsOf, TablesOf}
-use Rattle.filling.specs.Window.{decoded}
-use Rattle.filling.proofs.Window.{decoded-right}
+use Rattle.filling.specs.Window.{fittingWord, decoded}
+use Rattle.filling.proofs.Window.{word-fits}
 use Rattle.values.specs.Window.{size}
 use Rattle.values.specs.declared.Window.{Window}
 use Rattle.decoder_refusal.specs.Refusal.{tableSize, places}
@@ -58,10 +59,11 @@ module _ {c : Coder} {f : List ℕ} (h : CoderOf c f) where
 
   -- what is right from the states of a word is right for the file's windows with the settle count whose start states these are
   module _ (p : ℕ) {starts : ℕ} (s : Holds (settingOfCoder c p .Start) starts) where
-    pub right-of : (w : List ℕ) (b : ℕ) (v : Answer) → Right (fromWord c starts) w b v → Right (settingAfter f p) w b v
-    right-of w b v r =
-        subst (λ M. Right (afterLetters M p) w b v) (coder-machine (h .is) (accepted f (h .file)))
-        (answers-same (same-word c p s) w b (meaning v) r)
+    pub fits-of : (w : List ℕ) (b : ℕ) {u : ℕ} → Holds (Fits (fromWord c starts) w b) u → Holds (Fits (settingAfter f p) w b) u
+    fits-of w b {u} r =
+        let e = same-word c p s in
+        subst (λ M. Holds (Fits (afterLetters M p) w b) u) (coder-machine (h .is) (accepted f (h .file)))
+        (holds-map (fits-same e w b) (fits-same (same-sym e) w b) r)
 
     pub byte-of : (w : List ℕ) (b : ℕ) {v : ℕ} → RightByte (fromWord c starts) w b v → RightByte (settingAfter f p) w b v
     byte-of w b {v} r =
@@ -111,12 +113,17 @@ file-starts f z =
     let a = accepted f z in
     starts-hold (machineOf f) (total f a) (some-state f a) (a .entries .limits .states-high)
 
--- the answer of an accepted file for the letters of a window
-pub file-right :
+-- the letters that fit a window of an accepted file, and the answer
+pub file-fits :
     (f : List ℕ) → fileRefusal f ≡ 0 → (p : ℕ) (w : List ℕ) (b : ℕ) → b < length w →
-    Right (settingAfter f p) w b (decoded (coderOf f) (startsOf f p) w b)
-file-right f z p w b l =
+    Holds (Fits (settingAfter f p) w b) (fittingWord (coderOf f) (startsOf f p) w b)
+file-fits f z p w b l =
     let h : CoderOf (coderOf f) f = record { is = refl; file = z } in
     let same = coder-machine (h .is) (accepted f z) in
     let s = subst (λ M. Holds (afterLetters M p .Start) (startsOf f p)) (sym same) (file-starts f z p) in
-    right-of h p s w b (decoded (coderOf f) (startsOf f p) w b) (decoded-right (coderOf f) (sound-of h) (startsOf f p) w b (starts-of h p s) l)
+    fits-of h p s w b (word-fits (coderOf f) (sound-of h) (startsOf f p) w b (starts-of h p s) l)
+
+pub file-right :
+    (f : List ℕ) → fileRefusal f ≡ 0 → (p : ℕ) (w : List ℕ) (b : ℕ) → b < length w →
+    Right (settingAfter f p) w b (decoded (coderOf f) (startsOf f p) w b)
+file-right f z p w b l = holds-right (file-fits f z p w b l)

@@ -5,8 +5,8 @@ use mathlib.Core.List.{List}
 use Prim.Native.Nat.{ℕ, _≤_}
 use native.Mathlib.Omega.{arith}
 use lib.ListN.{length}
-use lib.Dec.{lit<, leb, eqb}
-use borrow.Author.Tests.{leb-true, eqb-true}
+use lib.Dec.{lit<, leb}
+use borrow.Author.Tests.{leb-true}
 use Rattle.mealy.specs.Machine.{Letters}
 use Rattle.coder.specs.Limits.{maxSide, maxSettle}
 use Rattle.coder.specs.Refusal.{refuse, first, lettersBelow}
@@ -16,8 +16,8 @@ use Rattle.coder.proofs.Accepted.{accepted}
 use Rattle.table_size.specs.Size.{maxTable}
 use Rattle.table_size.specs.Cases.{tableAllowed}
 use Rattle.table_size.proofs.Exact.{cases-exact}
-use Rattle.window_limits.specs.Refusal.{sidesRefusal, settleRefusal, SidesSmall}
-use Rattle.window_limits.proofs.Limits.{sides-accepted, sides-pass, settle-accepted, settle-pass}
+use Rattle.window_limits.specs.Refusal.{sidesRefusal, settleRefusal, receivedRefusal, SidesSmall}
+use Rattle.window_limits.proofs.Limits.{sides-accepted, sides-pass, settle-accepted, settle-pass, received-accepted}
 use Rattle.values.specs.Window.{size}
 use Rattle.values.specs.declared.Window.{Window}
 use Rattle.decoder_refusal.specs.Refusal.{limitsRefusal, windowRefusal, stringRefusal, tableSize, tableRefusal, places}
@@ -54,18 +54,9 @@ pub window-accepted :
     WindowAccepted f w received fit
 unfolding windowRefusal
 window-accepted f w received fit e =
-    let n = eqb (length received) (size w) in
-    let l = lettersBelow (outputsOf f) received in
-    let p = first-none (limitsRefusal f w) (refuse (not n) 9 (refuse (not fit) 11 (refuse (not l) 13 0))) e in
-    let q = refuse-not n _ _ (lit< tt) (p .1) in
-    let h = refuse-not fit _ _ (lit< tt) (q .1) in
-    let s = refuse-not l _ _ (lit< tt) (h .1) in
-    record {
-      limits = limits-accepted f w (p .0);
-      long = eqb-true _ _ (q .0);
-      fits = h .0;
-      letters = letters-below (outputsOf f) received (s .0);
-    }
+    let p = first-none (limitsRefusal f w) (receivedRefusal (size w) (outputsOf f) received fit) e in
+    let r = received-accepted (size w) (outputsOf f) received fit (p .1) in
+    record { limits = limits-accepted f w (p .0); long = r .long; fits = r .fits; letters = r .letters }
 
 -- its checked part is asked rightly, whatever buffers are lent
 pub window-asked :

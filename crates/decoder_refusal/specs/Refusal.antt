@@ -3,11 +3,11 @@ use Prim.Native.Nat.{ℕ, _+_, _-_, _^_}
 use mathlib.Core.Bool.{Bool, not, _&&_}
 use mathlib.Core.List.{List}
 use lib.ListN.{length}
-use lib.Dec.{leb, eqb}
+use lib.Dec.{leb}
 use Rattle.coder.specs.Refusal.{refuse, first, lettersBelow}
 use Rattle.coder.specs.File.{fileRefusal, outputsOf}
 use Rattle.table_size.specs.Size.{maxTable}
-use Rattle.window_limits.specs.Refusal.{sidesRefusal, settleRefusal}
+use Rattle.window_limits.specs.Refusal.{sidesRefusal, settleRefusal, receivedRefusal}
 use Rattle.values.specs.Window.{size}
 use Rattle.values.specs.declared.Window.{Window}
 
@@ -15,15 +15,9 @@ use Rattle.values.specs.declared.Window.{Window}
 unfoldable pub limitsRefusal : List ℕ → Window → ℕ
 limitsRefusal f w = first (fileRefusal f) (first (sidesRefusal (w .before) (w .after)) (settleRefusal (w .settle)))
 
--- One window: then 9 (the number of letters), 11 (some lent buffer is too short) and 13 (a received letter). Whether all lent buffers
--- are long enough is an argument: a call of the library lends none for a single window, a call from C lends its result.
+-- One window: then 9 (the number of letters), 11 (some lent buffer is too short) and 13 (a received letter).
 unfoldable pub windowRefusal : List ℕ → Window → List ℕ → Bool → ℕ
-windowRefusal f w received fits =
-    first (limitsRefusal f w)
-    (refuse (not (eqb (length received) (size w))) 9
-    (refuse (not fits) 11
-    (refuse (not (lettersBelow (outputsOf f) received)) 13
-    0)))
+windowRefusal f w received fits = first (limitsRefusal f w) (receivedRefusal (size w) (outputsOf f) received fits)
 
 -- A string: then 11 (some lent buffer is too short) and 13.
 unfoldable pub stringRefusal : List ℕ → Window → List ℕ → Bool → ℕ

@@ -1,4 +1,4 @@
--- One window: the pass over its letters, and that its answer is right.
+-- One window: the pass over its letters, and that its word holds the letters that fit.
 use mathlib.Core.Path.{_≡_, sym}
 use mathlib.Core.List.{List, [], _∷_}
 use Prim.Native.Nat.{ℕ, zero, suc, pred, _<_, _≤_}
@@ -7,6 +7,7 @@ use native.Mathlib.Omega.{arith}
 use lib.ListN.{length, getD}
 use lib.Dec.{eqb}
 use Rattle.mealy.specs.Setting.{Bounded}
+use Rattle.mealy.specs.Answer.{Fits}
 use Rattle.mealy.specs.Word.{Holds}
 use Rattle.mealy.specs.Image.{Image}
 use Rattle.mealy.proofs.Words.{holds-map, holds-none}
@@ -14,11 +15,9 @@ use Rattle.mealy.proofs.OneMore.{next-below, holds-more}
 use Rattle.coder.specs.Table.{machineOfCoder, Sound}
 use Rattle.coder.specs.declared.inner.tables.Coder.{Coder}
 use Rattle.setting.specs.Words.{fromWord}
-use Rattle.fitting.specs.Answer.{Right}
-use Rattle.fitting.proofs.Answers.{holds-right}
 use Rattle.filling.specs.Runs.{Sets, SetAfter, From}
 use Rattle.filling.specs.Sets.{advance, startSets}
-use Rattle.filling.specs.Window.{pass, unionOf, decoded}
+use Rattle.filling.specs.Window.{pass, unionOf, fittingWord}
 use Rattle.filling.proofs.Sets.{advance-holds}
 use Rattle.filling.proofs.Runs.{WithinStates, from-after, after-from, from-all, all-from, startingSets, from-fits, fits-from}
 use Rattle.filling.proofs.Filling.{start-holds}
@@ -52,12 +51,11 @@ module _ (c : Coder) (sound : Sound c) where
       (λ t m. advance-holds c sound Q v o (eqb p 1) k t (let n = sound .states-high in omega arith))
       (omega arith))
 
-  pub decoded-right :
+  pub word-fits :
       (starts : ℕ) (w : List ℕ) (b : ℕ) → Bounded (fromWord c starts) → b < length w →
-      Right (fromWord c starts) w b (decoded c starts w b)
-  unfolding decoded
-  decoded-right starts w b h l =
+      Holds (Fits (fromWord c starts) w b) (fittingWord c starts w b)
+  unfolding fittingWord
+  word-fits starts w b h l =
       let S = fromWord c starts in
-      holds-right
-      (holds-map (λ x. fits-from S w b x l) (from-fits S w b)
-      (pass-holds w (startSets starts) (suc b) (startingSets S) (λ s x q. h s (q .0)) (start-holds c sound starts) (omega arith)))
+      holds-map (λ x. fits-from S w b x l) (from-fits S w b)
+      (pass-holds w (startSets starts) (suc b) (startingSets S) (λ s x q. h s (q .0)) (start-holds c sound starts) (omega arith))

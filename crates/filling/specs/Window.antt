@@ -1,4 +1,5 @@
--- One window as a computation: what a table has for it. The laws that an outcome exists and the worked examples compute with it.
+-- One window as a computation: the letters that fit, and what a table has for it. The laws that an outcome exists and the worked examples
+-- compute with it.
 use Prim.Native.Nat.{ℕ, zero, suc, pred}
 use mathlib.Core.List.{List, [], _∷_}
 use lib.Bits.{bitOr}
@@ -19,5 +20,9 @@ unfoldable pub unionOf : ℕ → List ℕ → ℕ
 unionOf zero v = 0
 unionOf (suc n) v = bitOr (unionOf n v) (getD v n 0)
 
-unfoldable pub decoded : Coder → ℕ → List ℕ → ℕ → Answer
-decoded c starts w b = answerOf (unionOf (c .states) (pass c (c .next) (startSets starts) w (suc b)))
+-- the word of the letters that fit
+unfoldable pub fittingWord : Coder → ℕ → List ℕ → ℕ → ℕ
+fittingWord c starts w b = unionOf (c .states) (pass c (c .next) (startSets starts) w (suc b))
+
+abbrev pub decoded : Coder → ℕ → List ℕ → ℕ → Answer
+decoded c starts w b = answerOf (fittingWord c starts w b)

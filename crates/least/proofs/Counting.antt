@@ -22,6 +22,7 @@ use Rattle.product.specs.Conflict.{Conflicting, backOf, forwardOf}
 use Rattle.product.proofs.Entries.{entry-below, far-below}
 use Rattle.coder.proofs.Tables.{output-high}
 use Rattle.mealy.specs.Product.{forward}
+use Rattle.mealy.proofs.Words.{has-empty}
 use Rattle.least.specs.Need.{Counted, CountedAt, EachCounted, raised, Grows}
 use Rattle.least.specs.Need.{CountAsked, CountedOne, RowOf, RowDone, ConflictsAsked, ConflictsDone}
 
@@ -214,6 +215,17 @@ module _ (c : Coder) (conflicts : List ℕ) (backs forwards : List (List ℕ)) (
     sources = a .sources;
     none = λ e q k. a .counted q k (omega arith);
     some = λ e. absurd (true-false e refl);
+  }
+
+  -- no letter conflicts with the one of the entry at place p
+  pub row-empty :
+      {before : List ℕ} → length before ≡ 256 → getD conflicts (p % 16) 0 ≡ 0 → RowDone c conflicts backs forwards p before false before
+  row-empty size e = record {
+    size = size;
+    grows = λ f. omega arith;
+    sources = λ z. z;
+    none = λ z q k. absurd (has-empty (q % 16) (rw e at (k .conflict)));
+    some = λ z. absurd (true-false z refl);
   }
 
 -- ---- all rows: the entries before place a have been counted

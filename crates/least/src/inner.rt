@@ -64,7 +64,7 @@ fn both_endless(b: u8, f: u8) -> bool
 }
 
 // Counts the edges of the entry at place p with the entries of the chain from the entry numbered `from` on that conflict with it, up to
-// one that is endless on both sides; says whether there is one.
+// one that is endless on both sides; says whether there is one. Where no letter conflicts with the entry's, the chain is not gone through.
 fn row<'a>(
     previous: &'a [u16; 256],
     next: &'a [u8; 256],
@@ -79,6 +79,9 @@ fn row<'a>(
     ensures { λ r. ⌜ RowCounted (now (previous .entry)) (now (next .entry)) (now (conflicts .entry)) (now (backs .entry)) (now (forwards .entry)) p from (now (worst .entry)) r (now (worst .exit)) ⌝ }
 {
     let set = conflicts[p % Coder::INPUTS];
+    if set == 0 {
+        return false;
+    }
     let mut y = from;
     while 0 < y {
         let q = y - 1;

@@ -6,6 +6,7 @@ ghost use Rattle.running_host.specs.Laid.{RunFromHost};
 ghost use Rattle.search_host.specs.Laid.{SearchFromHost};
 ghost use Rattle.decoder_host.specs.Laid.{WindowFromHost, StringFromHost, TableFromHost};
 ghost use Rattle.checker_host.specs.Laid.{CheckFromHost};
+ghost use Rattle.kinds_host.specs.Laid.{SearchKindsFromHost, WindowKindsFromHost};
 ghost use Rattle.writer_host.specs.Laid.{WriteFromHost};
 
 // Runs the coder from a start state: writes an output letter for each input letter. The file's refusals, 7, 11, 12.
@@ -99,6 +100,31 @@ pub extern "C" fn lowhenita_window(
         (now (result .entry)) r (now (result .exit)) ⌝ }
 {
     decoder_host::window(file, before, after, settle, received, result)
+}
+
+// Finds the carried kinds of letter and the first window that tells the kind always and the letter in every carried kind, or that kinds can
+// be told by no window. The file's refusals, 16, 11.
+#[no_mangle]
+pub extern "C" fn lowhenita_search_kinds(file: &[u8], kinds: &[u8], result: &mut [u8]) -> usize
+    ensures { λ r. ⌜ SearchKindsFromHost (now (file .entry)) (now (kinds .entry)) (now (result .entry)) r (now (result .exit)) ⌝ }
+{
+    kinds_host::search_kinds(file, kinds, result)
+}
+
+// Decodes one window of received letters to a letter or a kind. The file's refusals, 16, 8, 9, 11, 13.
+#[no_mangle]
+pub extern "C" fn lowhenita_window_kinds(
+    file: &[u8],
+    kinds: &[u8],
+    before: usize,
+    after: usize,
+    received: &[u8],
+    result: &mut [u8],
+) -> usize
+    ensures { λ r. ⌜ WindowKindsFromHost (now (file .entry)) (now (kinds .entry)) before after (now (received .entry))
+        (now (result .entry)) r (now (result .exit)) ⌝ }
+{
+    kinds_host::window_kinds(file, kinds, before, after, received, result)
 }
 
 // Fills the decoder table: a byte for each window, by its index. The file's refusals, 8, 14, 10, 11.

@@ -1,11 +1,11 @@
--- Words that hold sets: the empty set, one number, unions, intersections, complements, the greatest number.
+-- Words that hold sets: the empty set, one number, unions, intersections, complements, the greatest number; a set has one word.
 use mathlib.Core.Path.{_≡_, refl, sym, ap, subst, _∙_}
-use mathlib.Core.Logic.{_⊎_, _≢_, inl, inr, ⊎-elim}
+use mathlib.Core.Logic.{_⊎_, _↔_, _≢_, inl, inr, ⊎-elim}
 use Prim.Native.Nat.{ℕ, zero, suc, _+_, _-_, _*_, _/_, _%_, _^_, _<_, _≤_, max, min}
 use native.Mathlib.Decide.{ℕ-discrete, decLt}
 use native.Mathlib.Nat.{le-refl, max-comm, zero-max, pow-suc, one-mul, div-eq-of-lt, div-eq-of-lt-le, div-eq-of-eq-mul-left}
 use native.Mathlib.Omega.{arith}
-use lib.Bits.{bitOr, bitAnd, or-step, or-shr, or-lt, or-shifted, and-step, and-shr}
+use lib.Bits.{bitOr, bitAnd, or-step, or-shr, or-lt, or-shifted, and-step, and-shr, and-lt}
 use lib.Count.{leadingZeros, leading-le, leading-top}
 use lib.Pow.{pow-pos, pow-lt, pow-mono, pow-add, shl-exact, shr-shr}
 use lib.Dec.{lit<}
@@ -203,6 +203,25 @@ has-not v x b l n =
 pub not-has : (v x : ℕ) → v < 65536 → x < 16 → Has (65535 - v) x → Has v x → ⊥
 not-has v x b l h k = let e = complement-bit 16 x (65535 - v) v l (omega arith) in omega arith
 
+pub holds-both : {w : ℕ} {P Q : ℕ → Type 0} {u v : ℕ} → HoldsIn w P u → HoldsIn w Q v → HoldsIn w (λ x. P x × Q x) (bitAnd u v)
+holds-both {w} {P} {Q} {u} {v} a b =
+    record {
+      bound = and-lt w u v (a .bound) (b .bound);
+      below = λ x p. a .below x (p .0);
+      has = λ x p. has-both u v x (a .has x (p .0)) (b .has x (p .1));
+      only = λ x l h. let z = has-and u v x h in (a .only x l (z .0), b .only x l (z .1));
+    }
+
+pub holds-not : {P : ℕ → Type 0} {u : ℕ} → Holds P u → Holds (λ x. (x < 16) × (P x → ⊥)) (65535 - u)
+holds-not {P} {u} a =
+    let m : u < 65536 = a .bound in
+    record {
+      bound = omega arith;
+      below = λ x p. p .0;
+      has = λ x p. has-not u x m (p .0) (λ h. p .1 (a .only x (p .0) h));
+      only = λ x l h. (l, λ p. not-has u x m l h (a .has x p));
+    }
+
 -- ---- all numbers below n
 
 pub full-has : (n x : ℕ) → x < n → Has (2 ^ n - 1) x
@@ -237,3 +256,29 @@ module _ {w n : ℕ} {P : ℕ → Type 0} {u : ℕ} (a : HoldsIn w P u) (low : (
 
   pub full-holds : n ≤ w → u ≡ 2 ^ n - 1 → (x : ℕ) → x < n → P x
   full-holds k e x l = a .only x (omega arith) (rw e (full-has n x l))
+
+-- ---- a set has one word
+
+word-unique : (n u v : ℕ) → u < 2 ^ n → v < 2 ^ n → ((x : ℕ) → x < n → Has u x ↔ Has v x) → u ≡ v
+word-unique zero u v l m f = omega arith
+word-unique (suc n) u v l m f =
+    let s = pow-suc 2 n in
+    let h : u / 2 ≡ v / 2 =
+    word-unique n (u / 2) (v / 2) (omega arith) (omega arith)
+    (λ x q. let g = f (suc x) (omega arith) in rw (halved u x, halved v x) (g .0, g .1)) in
+    let g = f 0 (omega arith) in
+    let low : u % 2 ≡ v % 2 = elim (ℕ-discrete (u % 2) 1) [
+      | yes e ↦ e ∙ sym (first v (g .0 (back u e)))
+      | no e ↦ elim (ℕ-discrete (v % 2) 1) [ yes d ↦ absurd (e (first u (g .1 (back v d)))) | no d ↦ omega arith ]
+    ] in
+    omega arith
+  where
+    first : (x : ℕ) → Has x 0 → x % 2 ≡ 1
+    first x h = let z : x / 1 % 2 ≡ 1 = h in omega arith
+
+    back : (x : ℕ) → x % 2 ≡ 1 → Has x 0
+    back x e = let z : x / 1 % 2 ≡ 1 = omega arith in z
+
+pub holds-unique : {w : ℕ} {P : ℕ → Type 0} {u v : ℕ} → HoldsIn w P u → HoldsIn w P v → u ≡ v
+holds-unique {w} {P} {u} {v} a b =
+    word-unique w u v (a .bound) (b .bound) (λ x l. ((λ h. b .has x (a .only x l h)), λ h. a .has x (b .only x l h)))

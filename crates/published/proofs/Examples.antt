@@ -6,7 +6,7 @@ use mathlib.Core.List.{List, [], _∷_}
 use Prim.Native.Nat.{ℕ}
 use Rattle.values.specs.declared.Window.{Window}
 use Rattle.published.specs.Published.{without, order, follows, Bytes, startRule, settleRule, numberRule, tableRule, buffersRule}
-use Rattle.published.specs.Published.{inputsRule, receivedRule, fileRules, partsRules, windowRules}
+use Rattle.published.specs.Published.{inputsRule, receivedRule, fileRules, partsRules, windowRules, kindsRule, sidesRule}
 
 -- in the order, which is not that of the numbers themselves; with numbers left out
 pub in-order : follows (6 ∷ 15 ∷ 7 ∷ 14 ∷ 9 ∷ 13 ∷ []) order ≡ true
@@ -28,9 +28,22 @@ unfolding follows
 exchanged = refl
 
 -- a number that the list does not have
-pub not-listed : follows (13 ∷ 16 ∷ []) order ≡ false
+pub not-listed : follows (13 ∷ 21 ∷ []) order ≡ false
 unfolding follows
 not-listed = refl
+
+-- 16 directly after 7, and so before 8
+pub kinds-after-start : follows (15 ∷ 7 ∷ 16 ∷ 8 ∷ []) order ≡ true
+unfolding follows
+kinds-after-start = refl
+
+pub kinds-after-sides : follows (8 ∷ 16 ∷ []) order ≡ false
+unfolding follows
+kinds-after-sides = refl
+
+pub kinds-before-start : follows (16 ∷ 7 ∷ []) order ≡ false
+unfolding follows
+kinds-before-start = refl
 
 -- A coder's rules have number 15; the rules behind them, of each call, do not, whatever it is given.
 pub file-has : (f : List ℕ) → without 15 (fileRules f) ≡ false
@@ -45,6 +58,14 @@ run-without f xs s bs = refl
 
 pub search-without : (p : ℕ) (bs : List Bytes) → without 15 (settleRule p ∷ buffersRule bs ∷ []) ≡ true
 search-without p bs = refl
+
+pub search-kinds-without : (f kinds : List ℕ) (bs : List Bytes) → without 15 (kindsRule f kinds ∷ buffersRule bs ∷ []) ≡ true
+search-kinds-without f kinds bs = refl
+
+pub window-kinds-without :
+    (f kinds xs : List ℕ) (b a n m : ℕ) (bs : List Bytes) →
+    without 15 (kindsRule f kinds ∷ sidesRule b a ∷ numberRule n m ∷ buffersRule bs ∷ receivedRule f xs ∷ []) ≡ true
+window-kinds-without f kinds xs b a n m bs = refl
 
 pub check-without :
     (f xs : List ℕ) (s t n m : ℕ) (bs : List Bytes) →

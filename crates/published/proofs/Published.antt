@@ -22,10 +22,13 @@ use Rattle.window_limits.specs.Refusal.{sidesRefusal, settleRefusal}
 use Rattle.search.specs.Search.{searchRefusal, searchRefusalIn}
 use Rattle.writer.specs.Write.{writeRefusal, writeRefusalIn}
 use Rattle.checker.specs.Check.{checkRefusal}
+use Rattle.kind_list.specs.KindList.{listRefusal}
+use Rattle.search_kinds.specs.Search.{searchKindsRefusal}
+use Rattle.window_kinds.specs.Window.{windowKindsRefusal}
 use Rattle.published.specs.Published.{Rule, firstNumber, startRule, sidesRule, settleRule, numberRule, tableRule, Bytes, lent}
 use Rattle.published.specs.Published.{longEnough, buffersRule, inputsRule, receivedRule, fileRules, partsRules, windowRules}
 use Rattle.published.specs.Published.{givenRun, givenSearch, givenCheck, givenWindow, givenString, givenTable, givenWrite}
-use Rattle.published.specs.Published.{resultGiven, follows, CallsInOrder}
+use Rattle.published.specs.Published.{kindsRule, givenSearchKinds, givenWindowKinds, resultGiven, follows, CallsInOrder}
 use Rattle.published.proofs.Rules.{first-joined, asked-both}
 
 -- ---- a coder: counts and entries, and a file
@@ -138,6 +141,30 @@ module _ (f : List ℕ) where
   table-published w before others =
       limits-first w (tableRule f w ∷ buffersRule (lent before (tableSize (outputsOf f) w) ∷ others) ∷ [])
 
+  -- the file and 16, in front of other rules
+  list-first :
+      (kinds : List ℕ) (rs : List Rule) →
+      first (listRefusal f kinds) (firstNumber rs) ≡ firstNumber (fileRules f ++ (kindsRule f kinds ∷ rs))
+  unfolding listRefusal
+  list-first kinds rs =
+      first-first (fileRefusal f) _ _
+      ∙ ap (first (fileRefusal f)) (sym (first-joined (kindsRule f kinds ∷ []) rs refl))
+      ∙ file-first (kindsRule f kinds ∷ rs)
+
+  pub search-kinds-published :
+      (kinds : List ℕ) (others : List Bytes) →
+      searchKindsRefusal f kinds (longEnough others) ≡ firstNumber (givenSearchKinds f kinds others)
+  unfolding searchKindsRefusal
+  search-kinds-published kinds others = list-first kinds (buffersRule others ∷ [])
+
+  pub window-kinds-published :
+      (kinds : List ℕ) (b a : ℕ) (received : List ℕ) (others : List Bytes) →
+      windowKindsRefusal f kinds b a received (longEnough others) ≡ firstNumber (givenWindowKinds f kinds b a received others)
+  unfolding windowKindsRefusal
+  window-kinds-published kinds b a received others =
+      let rest = numberRule (length received) (b + 1 + a) ∷ buffersRule others ∷ receivedRule f received ∷ [] in
+      ap (first (listRefusal f kinds)) (sides-first b a rest) ∙ list-first kinds (sidesRule b a ∷ rest)
+
 -- ---- the writer, which is given no file
 
 pub write-published :
@@ -166,5 +193,7 @@ calls-in-order =
       window = λ f w received others. refl;
       string = λ f w received before others. refl;
       table = λ f w before others. refl;
+      search-kinds = λ f kinds others. refl;
+      window-kinds = λ f kinds b a received others. refl;
       write = λ n i o entries before others. refl;
     }

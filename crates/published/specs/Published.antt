@@ -1,5 +1,5 @@
 -- The published list of refusals (document 01, "Numbers of refusal, in checking order"; document 02, 3/13, for the writer, 6/13 for
--- number 14 and 7/13 for number 15): a rule for each number, the order of the numbers, and each call as the rules about what it is given.
+-- number 14, 7/13 for number 15 and 8/13 for number 16): a rule for each number, the order of the numbers, and each call as the rules about what it is given.
 -- The limits are the documents' own numbers here, and not the constants that the definitions of the calls use.
 use Prim.Native.Nat.{ℕ, _+_, _-_, _*_}
 use mathlib.Core.Path.{_≡_}
@@ -64,6 +64,10 @@ alphabetRule n i o entries = asks 15 (allNamed o (n * i) entries)
 -- 7, of a start state
 abbrev pub startRule : List ℕ → ℕ → Rule
 startRule f s = asks 7 (ltb s (statesOf f))
+
+-- 16, of a kind list
+abbrev pub kindsRule : List ℕ → List ℕ → Rule
+kindsRule f kinds = asks 16 (eqb (length kinds) (inputsOf f) && lettersBelow (inputsOf f) kinds)
 
 -- 8 and 14, of a window's sides and of a settle count
 abbrev pub sidesRule : ℕ → ℕ → Rule
@@ -160,6 +164,16 @@ abbrev pub givenTable : List ℕ → Window → List ℕ → List Bytes → List
 givenTable f w before others =
     fileRules f ++ windowRules w (tableRule f w ∷ buffersRule (lent before (tableSize (outputsOf f) w) ∷ others) ∷ [])
 
+-- the search for kinds, which lends no buffer of its own
+abbrev pub givenSearchKinds : List ℕ → List ℕ → List Bytes → List Rule
+givenSearchKinds f kinds others = fileRules f ++ (kindsRule f kinds ∷ buffersRule others ∷ [])
+
+-- the decoder of kinds: one window without a settle count
+abbrev pub givenWindowKinds : List ℕ → List ℕ → ℕ → ℕ → List ℕ → List Bytes → List Rule
+givenWindowKinds f kinds b a received others =
+    fileRules f ++
+    (kindsRule f kinds ∷ sidesRule b a ∷ numberRule (length received) (b + 1 + a) ∷ buffersRule others ∷ receivedRule f received ∷ [])
+
 -- the writer: no file, but counts and entry bytes, and a buffer for the file
 abbrev pub givenWrite : ℕ → ℕ → ℕ → List ℕ → List ℕ → List Bytes → List Rule
 givenWrite n i o entries before others =
@@ -172,7 +186,7 @@ resultGiven result = lent result 64 ∷ []
 -- ---- the order of the numbers, once
 
 abbrev pub order : List ℕ
-order = 1 ∷ 2 ∷ 3 ∷ 4 ∷ 5 ∷ 6 ∷ 15 ∷ 7 ∷ 8 ∷ 14 ∷ 9 ∷ 10 ∷ 11 ∷ 12 ∷ 13 ∷ []
+order = 1 ∷ 2 ∷ 3 ∷ 4 ∷ 5 ∷ 6 ∷ 15 ∷ 7 ∷ 16 ∷ 8 ∷ 14 ∷ 9 ∷ 10 ∷ 11 ∷ 12 ∷ 13 ∷ []
 
 abbrev pub numbersOf : List Rule → List ℕ
 numbersOf [] = []
@@ -197,4 +211,7 @@ pub record CallsInOrder : Type 0 where
   pub window : (f : List ℕ) (w : Window) (received : List ℕ) (others : List Bytes) → InOrder (givenWindow f w received others)
   pub string : (f : List ℕ) (w : Window) (received before : List ℕ) (others : List Bytes) → InOrder (givenString f w received before others)
   pub table : (f : List ℕ) (w : Window) (before : List ℕ) (others : List Bytes) → InOrder (givenTable f w before others)
+  pub search-kinds : (f kinds : List ℕ) (others : List Bytes) → InOrder (givenSearchKinds f kinds others)
+  pub window-kinds :
+      (f kinds : List ℕ) (b a : ℕ) (received : List ℕ) (others : List Bytes) → InOrder (givenWindowKinds f kinds b a received others)
   pub write : (n i o : ℕ) (entries before : List ℕ) (others : List Bytes) → InOrder (givenWrite n i o entries before others)

@@ -51,7 +51,8 @@ use Rattle.layout.proofs.Hosting.{no-fields, from-host, answered-host}
 use Rattle.published.specs.Published.{longEnough}
 use Rattle.theorems.specs.Demands.{Demand1, Said, byteSaid, SaidByte, Demand2, Demand3, NoLater, Demanded, FromC}
 use Rattle.published.proofs.Published.{file-published, run-published, search-published, check-published, window-published}
-use Rattle.published.proofs.Published.{string-published, table-published, write-published, result-published}
+use Rattle.published.proofs.Published.{string-published, table-published, search-kinds-published, window-kinds-published}
+use Rattle.published.proofs.Published.{write-published, result-published}
 use Rattle.theorems.proofs.Counted.{counted}
 use Rattle.theorems.proofs.HostReads.{first-read, search-found}
 use Rattle.theorems.proofs.RoundTrip.{round-trip}
@@ -109,6 +110,8 @@ demand-1 = record {
       moved _ _ (search-published f p before others)
       (search-upon (searchRefusalIn f p (length before) (longEnough others)) _ r before after h);
   check = λ f p others r q. moved _ _ (check-published f p others) q;
+  search-kinds = λ f kinds others r p. moved _ _ (search-kinds-published f kinds others) p;
+  window-kinds = λ f kinds b a received others r p. moved _ _ (window-kinds-published f kinds b a received others) p;
   write = λ n i o entries before others r after p.
       moved _ _ (write-published n i o entries before others)
       (both-answers (writeRefusalIn n i o entries (length before) (longEnough others)) _ _ _ _ (p .result) (p .bytes));

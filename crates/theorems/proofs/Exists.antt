@@ -3,6 +3,8 @@ use mathlib.Core.Path.{refl}
 use Rattle.search.proofs.Exists.{search-exists}
 use Rattle.checker.proofs.Determined.{check-exists}
 use Rattle.decoder.proofs.Determined.{window-exists, string-exists, table-exists}
+use Rattle.search_kinds.proofs.Exists.{search-kinds-exists}
+use Rattle.window_kinds.proofs.Determined.{window-kinds-exists}
 use Rattle.theorems.specs.Exists.{OutcomesExist}
 
 pub outcomes-exist : OutcomesExist
@@ -14,6 +16,8 @@ outcomes-exist =
       window = window-exists;
       string = string-exists;
       table = table-exists;
+      search-kinds = search-kinds-exists;
+      window-kinds = window-kinds-exists;
       write = λ n i o entries before others. (_, _, record { result = refl; bytes = refl });
       from-C = λ Promise laid result own p. (_, _, record { own = own; promised = p; out = record { number = refl; fields = refl } });
     }

@@ -70,7 +70,7 @@ module _ (f : List ℕ) (s : ℕ) (xs : List ℕ) (coded : Coded f s xs) where
       rw (limits-pass f w (coded .file) l m k, le-leb (places (length received) w) (length before) n, letters-test (outputsOf f) received h)
 
   -- the letters that a run wrote
-  wrote :
+  pub wrote :
       (before after : List ℕ) (r : RunResult) → length xs ≤ length before → RunPromise f s xs before r after →
       take (length xs) after ≡ outs (machineOf f) s xs
   wrote before after r l p =

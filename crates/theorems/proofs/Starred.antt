@@ -51,7 +51,7 @@ use Rattle.fitting.specs.declared.Answer.{Answer}
 use Rattle.fitting.specs.declared.Answer.the-variants.{Letter, None, Several}
 use Rattle.fitting.proofs.Answers.{right-unique, right-byte, right-byte-unique}
 use Rattle.filling.specs.Sets.{contribution, gather, add, added}
-use Rattle.filling.specs.Window.{pass, unionOf, decoded}
+use Rattle.filling.specs.Window.{pass, unionOf, fittingWord, decoded}
 use Rattle.decoder_refusal.specs.Refusal.{limitsRefusal, windowRefusal, stringRefusal, tableSize, tableRefusal, places, stringRefusalIn}
 use Rattle.decoder_refusal.specs.Refusal.{tableRefusalIn}
 use Rattle.decoder.specs.Written.{Written}
@@ -74,7 +74,7 @@ use Rattle.checker.specs.Check.{checkRefusal, CheckedRight}
 use Rattle.checker.proofs.Determined.{checked-as}
 use Rattle.theorems.specs.Starred as claimed
 use Rattle.theorems.specs.Starred.{Claim, Case, Holds, AllHold, AllCases, starred}
-use Rattle.theorems.proofs.Tests.{sameList, same-list, allStarts, allWords, agree, worksTest, laterOrFails, leastTest, least-test}
+use Rattle.theorems.proofs.Tests.{sameList, same-list, allStarts, allWords, agree, worksTest, laterOrFails, leastTest, least-letters, apart}
 use Rattle.theorems.proofs.Tests.{closesTest, validTest, test-valid, noEarlier, firstTest, first-size, first-test, differentTest}
 use Rattle.theorems.proofs.Tests.{different-test}
 
@@ -113,10 +113,10 @@ entryByte f p n b k = partByte f p b (windowAt (outputsOf f) n k)
 unfoldable test : List ℕ → Claim → Bool
 test f (claimed.counts n i o) = eqb (statesOf f) n && (eqb (inputsOf f) i && eqb (outputsOf f) o)
 test f (claimed.written n i o entries) = eqb (entriesRefusal n i o entries) 0 && sameList (fileOf n i o entries) f
-test f (claimed.window o b a p) = leb p maxSettle && leastTest (machineOf f) (startsOf f p) o b a
+test f (claimed.window o b a p) = leb p maxSettle && leastTest (machineOf f) (startsOf f p) apart o b a
 test f (claimed.no-decoder s t bytes) = firstTest (machineOf f) (startsOf f 0) s t bytes && eqb (checkRefusal f (claimed.pair s t bytes) true) 0
 test f (claimed.not-valid s t bytes) =
-    not (validTest (machineOf f) (startsOf f 0) (claimed.pair s t bytes)) && eqb (checkRefusal f (claimed.pair s t bytes) true) 0
+    not (validTest (machineOf f) (startsOf f 0) (claimed.pair s t bytes) apart) && eqb (checkRefusal f (claimed.pair s t bytes) true) 0
 test f claimed.different-outputs = differentTest (machineOf f)
 test f (claimed.answer b a p w v) =
     eqb (windowRefusal f (window b a p) w true) 0 && sameAnswer (decoded (coderOf f) (startsOf f p) w b) v
@@ -279,9 +279,9 @@ module _ (f : List ℕ) (z : fileRefusal f ≡ 0) where
       let t = both-true (eqb (entriesRefusal n i o entries) 0) (sameList (fileOf n i o entries) f) e in
       λ before r after l p. write-given n i o entries before f r after (eqb-true _ _ (t .0)) (same-list _ _ (t .1)) l p
   claim-holds (claimed.window o b a p) e =
-      let u = both-true (leb p maxSettle) (leastTest (machineOf f) (startsOf f p) o b a) e in
+      let u = both-true (leb p maxSettle) (leastTest (machineOf f) (startsOf f p) apart o b a) e in
       window-holds o b a p (leb-true _ _ (u .0))
-      (least-test (machineOf f) (startsOf f p) o b a p (total f (accepted f z)) (some-state f (accepted f z)) (file-starts f z p) (u .1))
+      (least-letters (machineOf f) (startsOf f p) p (total f (accepted f z)) (some-state f (accepted f z)) (file-starts f z p) o b a (u .1))
   claim-holds (claimed.no-decoder s t bytes) e =
       let M = machineOf f in
       let starts = startsOf f 0 in
@@ -290,10 +290,10 @@ module _ (f : List ℕ) (z : fileRefusal f ≡ 0) where
       no-decoder-holds s t bytes (first-test M starts s t bytes h (u .0)) (first-size M starts s t bytes h (u .0)) (eqb-true _ _ (u .1))
   claim-holds (claimed.not-valid s t bytes) e =
       let p = claimed.pair s t bytes in
-      let v = validTest (machineOf f) (startsOf f 0) p in
+      let v = validTest (machineOf f) (startsOf f 0) p apart in
       let u = both-true (not v) (eqb (checkRefusal f p true) 0) e in
       not-valid-holds s t bytes (eqb-true _ _ (u .1))
-      (λ valid. true-false (test-valid (machineOf f) (startsOf f 0) p reachable-starts valid) (not-true v (u .0)))
+      (λ valid. true-false (test-valid (machineOf f) reachable-starts p valid) (not-true v (u .0)))
   claim-holds claimed.different-outputs e = different e
   claim-holds (claimed.answer b a p w v) e =
       let d = decoded (coderOf f) (startsOf f p) w b in
@@ -346,7 +346,7 @@ passed : testCases starred ≡ true
 unfolding test entriesWord imageWord inStepsWord startsWord allStarts bigEndian checkRefusal windowRefusal stringRefusal tableRefusal
     runRefusal limitsRefusal sidesRefusal settleRefusal leastTest laterOrFails worksTest agree allWords noEarlier firstTest validTest
     closesTest differentTest allBelow someBelow named fileRefusal entriesRefusal inRange within entryInRange machineOf entryOf coderOf
-    table tableAt decoded pass added add contribution gather unionOf answerOf leadingZeros hasKey isEntry over windowAt
+    table tableAt fittingWord pass added add contribution gather unionOf answerOf leadingZeros hasKey isEntry over windowAt
 passed = refl
 
 -- every starred case: its file is accepted, and all that is claimed of it holds

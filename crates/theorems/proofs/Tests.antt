@@ -9,11 +9,11 @@ use native.Mathlib.Decide.{ℕ-discrete}
 use lib.ListN.{length, getD, take}
 use lib.Seq.{take-all, length-take-le}
 use lib.Dec.{ltb, leb, eqb}
-use borrow.Author.Tests.{ltb-true, leb-true, eqb-true, eqb-false, lt-ltb, le-leb, eq-eqb, ne-eqb, not-true}
+use borrow.Author.Tests.{ltb-true, leb-true, eqb-true, eqb-false, lt-ltb, le-leb, eq-eqb, ne-eqb, not-true, not-false}
 use Rattle.mealy.specs.Machine.{Machine, outs, end, Letters, Total}
 use Rattle.mealy.specs.Reachable.{Reachable, StartAfter}
 use Rattle.mealy.specs.Word.{Holds}
-use Rattle.mealy.specs.Setting.{fromReachable, afterLetters}
+use Rattle.mealy.specs.Setting.{Setting, Closed, Bounded, fromReachable, afterLetters}
 use Rattle.mealy.specs.Window.{Works}
 use Rattle.mealy.specs.Order.{Least}
 use Rattle.mealy.specs.Product.{Direction, back, forward, Settled, pairs}
@@ -25,7 +25,8 @@ use Rattle.mealy.proofs.StartStates.{after-closed, after-bounded, dec-start-aft
 use Rattle.mealy.proofs.Settling.{settled-by}
 use Rattle.mealy.proofs.LeastWindows.{least-within}
 use Rattle.coder.specs.Refusal.{allBelow, lettersBelow}
-use Rattle.coder.proofs.Refusals.{true-false, both-true, all-at, letters-below}
+use Rattle.coder.specs.Refusal.{Judges}
+use Rattle.coder.proofs.Refusals.{true-false, both-true, all-at, all-fails, letters-below}
 use Rattle.values.specs.Window.{window}
 use Rattle.theorems.specs.Starred.{pair}
 use Rattle.theorems.proofs.RoundTrip.{letters-test}
@@ -51,16 +52,7 @@ list-same : (xs : List ℕ) → sameList xs xs ≡ true
 list-same [] = refl
 list-same (x ∷ xs) = rw (eq-eqb x x refl) (list-same xs)
 
--- ---- numbers below n, and words of n letters below i
-
-all-false : (n : ℕ) (p : ℕ → Bool) → allBelow n p ≡ false → (k : ℕ) × (k < n) × (p k ≡ false)
-unfolding allBelow
-all-false zero p e = absurd (true-false refl e)
-all-false (suc n) p e = go (p n) refl (all-false n p)
-  where
-    go : (b : Bool) → p n ≡ b → (allBelow n p ≡ false → (k : ℕ) × (k < n) × (p k ≡ false)) → (k : ℕ) × (k < suc n) × (p k ≡ false)
-    go true f h = let z = h (rw f at e) in (z .0, omega (arith, z .1), z .2)
-    go false f h = (n, omega arith, f)
+-- ---- words of n letters below i
 
 unfoldable pub allWords : ℕ → ℕ → (List ℕ → Bool) → Bool
 allWords i zero p = p []
@@ -85,7 +77,7 @@ words-false : (i n : ℕ) (p : List ℕ → Bool) → allWords i n p ≡ false �
 unfolding allWords
 words-false i zero p e = record { xs = []; below = tt; long = refl; fails = e }
 words-false i (suc n) p e =
-    let k = all-false i (λ x. allWords i n (λ xs. p (x ∷ xs))) e in
+    let k = all-fails i (λ x. allWords i n (λ xs. p (x ∷ xs))) e in
     let w = words-false i n (λ xs. p (k .0 ∷ xs)) (k .2) in
     record { xs = k .0 ∷ w .xs; below = (k .1, w .below); long = ap suc (w .long); fails = w .fails }
 
@@ -117,16 +109,25 @@ module _ {A : ℕ → Type 0} {starts : ℕ} (h : Holds A starts) where
   starts-false : (p : ℕ → Bool) → allStarts starts p ≡ false → (s : ℕ) × A s × (p s ≡ false)
   unfolding allStarts
   starts-false p e =
-      let x = all-false 16 (λ s. cond (isStart starts s) (p s) true) e in
+      let x = all-fails 16 (λ s. cond (isStart starts s) (p s) true) e in
       let d = differs (isStart starts (x .0)) (p (x .0)) (x .2) in
       (x .0, test-start (x .0) (d .0), d .1)
 
+-- ---- which letters conflict
+
+-- different letters
+abbrev pub apart : ℕ → ℕ → Bool
+apart i j = not (eqb i j)
+
+apart-judged : (i j : ℕ) → Judges (i ≢ j) (apart i j)
+apart-judged i j = record { yes′ = λ e. eqb-false i j (not-true _ e); no′ = λ e n. n (eqb-true i j (not-false _ e)) }
+
 -- ---- windows: all pairs of runs of b + 1 + a letters
 
-module _ (M : Machine) (starts b a : ℕ) where
-  -- runs that differ in output, or have one letter at place b
+module _ (M : Machine) (starts : ℕ) (conflict : ℕ → ℕ → Bool) (b a : ℕ) where
+  -- runs that differ in output, or have letters at place b that do not conflict
   unfoldable pub agree : ℕ → ℕ → List ℕ → List ℕ → Bool
-  agree s t xs ys = cond (sameList (outs M s xs) (outs M t ys)) (eqb (getD xs b 0) (getD ys b 0)) true
+  agree s t xs ys = cond (sameList (outs M s xs) (outs M t ys)) (not (conflict (getD xs b 0) (getD ys b 0))) true
 
   unfoldable pub worksTest : Bool
   worksTest =
@@ -139,25 +140,38 @@ module _ (M : Machine) (starts b a : ℕ) where
   abbrev runs : ℕ → ℕ → Bool
   runs s t = allWords (M .inputs) (b + 1 + a) (λ xs. seconds s t xs)
 
-  module _ {p : ℕ} (held : Holds (StartAfter M p) starts) where
-    pub works-test : worksTest ≡ true → Works (afterLetters M p) b a
+-- of a setting whose start states the word holds and whose conflicts are judged
+module _ (S : Setting) {starts : ℕ} (held : Holds (S .Start) starts) (conflict : ℕ → ℕ → Bool)
+    (judged : (i j : ℕ) → Judges (S .Conflict i j) (conflict i j)) where
+  module _ (b a : ℕ) where
+    abbrev agrees : ℕ → ℕ → List ℕ → List ℕ → Bool
+    agrees = agree (S .M) starts conflict b a
+
+    abbrev secondRuns : ℕ → ℕ → List ℕ → Bool
+    secondRuns = seconds (S .M) starts conflict b a
+
+    abbrev bothRuns : ℕ → ℕ → Bool
+    bothRuns = runs (S .M) starts conflict b a
+
+    pub works-test : worksTest (S .M) starts conflict b a ≡ true → Works S b a
     unfolding worksTest agree
     works-test e s t xs ys g h w differ =
-        let x = starts-at held (λ s. allStarts starts (λ t. runs s t)) e s g in
-        let y = starts-at held (λ t. runs s t) x t h in
-        let z = words-at (M .inputs) (b + 1 + a) (λ xs. seconds s t xs) y xs (w .letters₁) (w .length₁) in
-        let v = words-at (M .inputs) (b + 1 + a) (λ ys. agree s t xs ys) z ys (w .letters₂) (w .length₂) in
-        let same : sameList (outs M s xs) (outs M t ys) ≡ true = rw (w .outputs) (list-same (outs M t ys)) in
-        differ (eqb-true _ _ (rw same at v))
+        let x = starts-at held (λ s. allStarts starts (λ t. bothRuns s t)) e s g in
+        let y = starts-at held (λ t. bothRuns s t) x t h in
+        let z = words-at (S .M .inputs) (b + 1 + a) (λ xs. secondRuns s t xs) y xs (w .letters₁) (w .length₁) in
+        let v = words-at (S .M .inputs) (b + 1 + a) (λ ys. agrees s t xs ys) z ys (w .letters₂) (w .length₂) in
+        let same : sameList (outs (S .M) s xs) (outs (S .M) t ys) ≡ true = rw (w .outputs) (list-same (outs (S .M) t ys)) in
+        judged (getD xs b 0) (getD ys b 0) .no′ (not-true _ (rw same at v)) differ
 
-    pub fails-test : worksTest ≡ false → Works (afterLetters M p) b a → ⊥
+    pub fails-test : worksTest (S .M) starts conflict b a ≡ false → Works S b a → ⊥
     unfolding worksTest agree
     fails-test e f =
-        let u = starts-false held (λ s. allStarts starts (λ t. runs s t)) e in
-        let v = starts-false held (λ t. runs (u .0) t) (u .2) in
-        let x = words-false (M .inputs) (b + 1 + a) (λ xs. seconds (u .0) (v .0) xs) (v .2) in
-        let y = words-false (M .inputs) (b + 1 + a) (λ ys. agree (u .0) (v .0) (x .xs) ys) (x .fails) in
-        let d = differs (sameList (outs M (u .0) (x .xs)) (outs M (v .0) (y .xs))) (eqb (getD (x .xs) b 0) (getD (y .xs) b 0)) (y .fails) in
+        let u = starts-false held (λ s. allStarts starts (λ t. bothRuns s t)) e in
+        let v = starts-false held (λ t. bothRuns (u .0) t) (u .2) in
+        let x = words-false (S .M .inputs) (b + 1 + a) (λ xs. secondRuns (u .0) (v .0) xs) (v .2) in
+        let y = words-false (S .M .inputs) (b + 1 + a) (λ ys. agrees (u .0) (v .0) (x .xs) ys) (x .fails) in
+        let same = sameList (outs (S .M) (u .0) (x .xs)) (outs (S .M) (v .0) (y .xs)) in
+        let d = differs same (not (conflict (getD (x .xs) b 0) (getD (y .xs) b 0))) (y .fails) in
         f (u .0) (v .0) (x .xs) (y .xs) (u .1) (v .1)
         (record {
           letters₁ = x .below;
@@ -166,58 +180,80 @@ module _ (M : Machine) (starts b a : ℕ) where
           length₂ = y .long;
           outputs = same-list _ _ (d .0);
         })
-        (eqb-false _ _ (d .1))
+        (judged (getD (x .xs) b 0) (getD (y .xs) b 0) .yes′ (not-false _ (d .1)))
 
 -- ---- the least window in an order: it works, and none that comes before it does
 
-module _ (M : Machine) (starts : ℕ) (o : Order) (b a : ℕ) where
+module _ (M : Machine) (starts : ℕ) (conflict : ℕ → ℕ → Bool) (o : Order) (b a : ℕ) where
   -- b a comes no later than the window b′ a′, or that does not work
   unfoldable pub laterOrFails : ℕ → ℕ → Bool
-  laterOrFails b′ a′ = cond (noLater o (window b a 0) (window b′ a′ 0)) true (not (worksTest M starts b′ a′))
+  laterOrFails b′ a′ = cond (noLater o (window b a 0) (window b′ a′ 0)) true (not (worksTest M starts conflict b′ a′))
 
   -- tried up to N (N + 1) / 2 letters a side, from the smallest number of letters before on
   unfoldable pub leastTest : Bool
   leastTest =
       let n = pairs (M .states) in
-      worksTest M starts b a && allBelow (n + 1) (λ k. allBelow (n + 1) (λ a′. laterOrFails (n - k) a′))
+      worksTest M starts conflict b a && allBelow (n + 1) (λ k. allBelow (n + 1) (λ a′. laterOrFails (n - k) a′))
 
-  later-or-fails :
-      (p : ℕ) → Holds (StartAfter M p) starts → (b′ a′ : ℕ) → laterOrFails b′ a′ ≡ true → Works (afterLetters M p) b′ a′ →
-      relationOf o b a b′ a′
+module _ (S : Setting) {starts : ℕ} (held : Holds (S .Start) starts) (conflict : ℕ → ℕ → Bool)
+    (judged : (i j : ℕ) → Judges (S .Conflict i j) (conflict i j)) (o : Order) (b a : ℕ) where
+  abbrev laterTest : ℕ → ℕ → Bool
+  laterTest = laterOrFails (S .M) starts conflict o b a
+
+  later-or-fails : (b′ a′ : ℕ) → laterTest b′ a′ ≡ true → Works S b′ a′ → relationOf o b a b′ a′
   unfolding laterOrFails
-  later-or-fails p held b′ a′ e f = go (noLater o (window b a 0) (window b′ a′ 0)) refl e
+  later-or-fails b′ a′ e f = go (noLater o (window b a 0) (window b′ a′ 0)) refl e
     where
       go :
-          (t : Bool) → noLater o (window b a 0) (window b′ a′ 0) ≡ t → cond t true (not (worksTest M starts b′ a′)) ≡ true →
+          (t : Bool) → noLater o (window b a 0) (window b′ a′ 0) ≡ t → cond t true (not (worksTest (S .M) starts conflict b′ a′)) ≡ true →
           relationOf o b a b′ a′
       go true z h = no-later o (window b a 0) (window b′ a′ 0) .0 z
-      go false z h = absurd (fails-test M starts b′ a′ held (not-true _ h) f)
+      go false z h = absurd (fails-test S held conflict judged b′ a′ (not-true _ h) f)
 
   pub least-test :
-      (p : ℕ) → Total M → 0 < M .states → Holds (StartAfter M p) starts → leastTest ≡ true → Least (relationOf o) (afterLetters M p) b a
+      Closed S → ((s : ℕ) → Dec (S .Start s)) → Bounded S → leastTest (S .M) starts conflict o b a ≡ true → Least (relationOf o) S b a
   unfolding leastTest
-  least-test p total some held e =
-      let n = pairs (M .states) in
-      let S = afterLetters M p in
-      let settled : (d : Direction) → Settled S d n =
-      λ d. settled-by S (dec-start-after M total some p) (after-bounded M total some p) d n (omega arith) in
-      let row : ℕ → Bool = λ k. allBelow (n + 1) (λ a′. laterOrFails (n - k) a′) in
-      let z = both-true (worksTest M starts b a) (allBelow (n + 1) row) e in
-      least-within (is-order o) S (after-closed M p) n (settled forward) n (settled back) b a (works-test M starts b a held (z .0)) (λ b′ a′ l m f.
+  least-test closed decided bounded e =
+      let n = pairs (S .M .states) in
+      let settled : (d : Direction) → Settled S d n = λ d. settled-by S decided bounded d n (omega arith) in
+      let row : ℕ → Bool = λ k. allBelow (n + 1) (λ a′. laterTest (n - k) a′) in
+      let z = both-true (worksTest (S .M) starts conflict b a) (allBelow (n + 1) row) e in
+      let works = works-test S held conflict judged b a (z .0) in
+      least-within (is-order o) S closed n (settled forward) n (settled back) b a works (λ b′ a′ l m f.
       let r = all-at (n + 1) row (z .1) (n - b′) (omega arith) in
       let same : n - (n - b′) ≡ b′ = omega arith in
-      later-or-fails p held b′ a′ (rw same at (all-at (n + 1) (λ a′. laterOrFails (n - (n - b′)) a′) r a′ (omega arith))) f)
+      later-or-fails b′ a′ (rw same at (all-at (n + 1) (λ a′. laterTest (n - (n - b′)) a′) r a′ (omega arith))) f)
+
+-- the least window for letters, with a settle count
+pub least-letters :
+    (M : Machine) (starts p : ℕ) → Total M → 0 < M .states → Holds (StartAfter M p) starts → (o : Order) (b a : ℕ) →
+    leastTest M starts apart o b a ≡ true → Least (relationOf o) (afterLetters M p) b a
+least-letters M starts p total some held o b a =
+    least-test (afterLetters M p) held apart apart-judged o b a (after-closed M p) (dec-start-after M total some p)
+    (after-bounded M total some p)
 
 -- ---- looped pairs
 
 module _ (M : Machine) (starts : ℕ) (p : LoopedPair) where
   unfoldable pub closesTest : Run → Bool
   closesTest r =
-      (isStart starts (startOf p r) && (lettersBelow (M .inputs) (runInputs p r) && (eqb (end M (startOf p r) (lettersFrom p r 0 (p .back-loop))) (startOf p r) && eqb (end M (startOf p r) (runInputs p r)) (end M (startOf p r) (lettersFrom p r 0 (unlooped p))))))
+      isStart starts (startOf p r) &&
+      (lettersBelow (M .inputs) (runInputs p r) &&
+      (eqb (end M (startOf p r) (lettersFrom p r 0 (p .back-loop))) (startOf p r) &&
+      eqb (end M (startOf p r) (runInputs p r)) (end M (startOf p r) (lettersFrom p r 0 (unlooped p)))))
 
-  unfoldable pub validTest : Bool
-  validTest =
-      (leb (2 * letters p) (length (p .bytes)) && (ltb 0 (p .back-loop) && (ltb 0 (p .forward-loop) && (sameList (outs M (p .s) (runInputs p first)) (outs M (p .t) (runInputs p second)) && (not (eqb (letterAt p first (mark p)) (letterAt p second (mark p))) && (closesTest first && closesTest second))))))
+  unfoldable pub validTest : (ℕ → ℕ → Bool) → Bool
+  validTest conflict =
+      leb (2 * letters p) (length (p .bytes)) &&
+      (ltb 0 (p .back-loop) &&
+      (ltb 0 (p .forward-loop) &&
+      (sameList (outs M (p .s) (runInputs p first)) (outs M (p .t) (runInputs p second)) &&
+      (conflict (letterAt p first (mark p)) (letterAt p second (mark p)) && (closesTest first && closesTest second)))))
+
+module _ (S : Setting) {starts : ℕ} (held : Holds (S .Start) starts) (conflict : ℕ → ℕ → Bool)
+    (judged : (i j : ℕ) → Judges (S .Conflict i j) (conflict i j)) (p : LoopedPair) where
+  abbrev M : Machine
+  M = S .M
 
   record ClosedRun (r : Run) : Type 0 where
     start : isStart starts (startOf p r) ≡ true
@@ -225,7 +261,7 @@ module _ (M : Machine) (starts : ℕ) (p : LoopedPair) where
     back-closed : end M (startOf p r) (lettersFrom p r 0 (p .back-loop)) ≡ startOf p r
     forward-closed : end M (startOf p r) (runInputs p r) ≡ end M (startOf p r) (lettersFrom p r 0 (unlooped p))
 
-  closed-run : (r : Run) → closesTest r ≡ true → ClosedRun r
+  closed-run : (r : Run) → closesTest M starts p r ≡ true → ClosedRun r
   unfolding closesTest
   closed-run r e =
       let f = eqb (end M (startOf p r) (runInputs p r)) (end M (startOf p r) (lettersFrom p r 0 (unlooped p))) in
@@ -241,11 +277,11 @@ module _ (M : Machine) (starts : ℕ) (p : LoopedPair) where
         forward-closed = eqb-true _ _ (z .1);
       }
 
-  pub valid-test : Holds (Reachable M) starts → validTest ≡ true → Valid (fromReachable M) p
+  pub valid-test : validTest M starts p conflict ≡ true → Valid S p
   unfolding validTest
-  valid-test held e =
-      let c = (closesTest first && closesTest second) in
-      let d = not (eqb (letterAt p first (mark p)) (letterAt p second (mark p))) in
+  valid-test e =
+      let c = (closesTest M starts p first && closesTest M starts p second) in
+      let d = conflict (letterAt p first (mark p)) (letterAt p second (mark p)) in
       let o = sameList (outs M (p .s) (runInputs p first)) (outs M (p .t) (runInputs p second)) in
       let f = ltb 0 (p .forward-loop) in
       let b = ltb 0 (p .back-loop) in
@@ -254,7 +290,7 @@ module _ (M : Machine) (starts : ℕ) (p : LoopedPair) where
       let z = both-true f (o && (d && c)) (y .1) in
       let u = both-true o (d && c) (z .1) in
       let v = both-true d c (u .1) in
-      let w = both-true (closesTest first) (closesTest second) (v .1) in
+      let w = both-true (closesTest M starts p first) (closesTest M starts p second) (v .1) in
       let run : (r : Run) → ClosedRun r = λ r. elim r [ first ↦ closed-run first (w .0) | second ↦ closed-run second (w .1) ] in
       record {
         held = leb-true _ _ (x .0);
@@ -263,15 +299,16 @@ module _ (M : Machine) (starts : ℕ) (p : LoopedPair) where
         back-letter = ltb-true _ _ (y .0);
         forward-letter = ltb-true _ _ (z .0);
         outputs = same-list _ _ (u .0);
-        conflict = eqb-false _ _ (not-true _ (v .0));
+        conflict = judged _ _ .yes′ (v .0);
         back-closed = λ r. run r .back-closed;
         forward-closed = λ r. run r .forward-closed;
       }
 
-  -- and the other way round
-  runs-closed : Holds (Reachable M) starts → Valid (fromReachable M) p → (r : Run) → closesTest r ≡ true
+-- and the other way round, of letters
+module _ (M : Machine) {starts : ℕ} (held : Holds (Reachable M) starts) (p : LoopedPair) (v : Valid (fromReachable M) p) where
+  runs-closed : (r : Run) → closesTest M starts p r ≡ true
   unfolding closesTest
-  runs-closed held v r =
+  runs-closed r =
       rw (
         start-test held (startOf p r) (v .start r),
         letters-test (M .inputs) (runInputs p r) (v .below r),
@@ -279,9 +316,9 @@ module _ (M : Machine) (starts : ℕ) (p : LoopedPair) where
         eq-eqb (end M (startOf p r) (runInputs p r)) (end M (startOf p r) (lettersFrom p r 0 (unlooped p))) (v .forward-closed r),
       )
 
-  pub test-valid : Holds (Reachable M) starts → Valid (fromReachable M) p → validTest ≡ true
+  pub test-valid : validTest M starts p apart ≡ true
   unfolding validTest
-  test-valid held v =
+  test-valid =
       let same : sameList (outs M (p .s) (runInputs p first)) (outs M (p .t) (runInputs p second)) ≡ true =
       rw (v .outputs) (list-same (outs M (p .t) (runInputs p second))) in
       rw (
@@ -290,8 +327,8 @@ module _ (M : Machine) (starts : ℕ) (p : LoopedPair) where
         lt-ltb 0 (p .forward-loop) (v .forward-letter),
         same,
         ne-eqb (letterAt p first (mark p)) (letterAt p second (mark p)) (v .conflict),
-        runs-closed held v first,
-        runs-closed held v second,
+        runs-closed first,
+        runs-closed second,
       )
 
 -- ---- the first pair, of three letters
@@ -312,16 +349,16 @@ lexicographic-test (x ∷ xs) (y ∷ ys) e = elim (ℕ-discrete x y) [
 module _ (M : Machine) (starts s t : ℕ) (bytes : List ℕ) where
   -- another pair of three letters is not valid, or comes no earlier
   unfoldable pub noEarlier : ℕ → ℕ → List ℕ → Bool
-  noEarlier s′ t′ w = cond (validTest M starts (pair s′ t′ w)) (lexicographicTest (s ∷ t ∷ bytes) (s′ ∷ t′ ∷ w)) true
+  noEarlier s′ t′ w = cond (validTest M starts (pair s′ t′ w) apart) (lexicographicTest (s ∷ t ∷ bytes) (s′ ∷ t′ ∷ w)) true
 
   unfoldable pub firstTest : Bool
   firstTest =
-      validTest M starts (pair s t bytes) &&
+      validTest M starts (pair s t bytes) apart &&
       (eqb (length bytes) 6 && allStarts starts (λ s′. allStarts starts (λ t′. allWords (M .inputs) 6 (noEarlier s′ t′))))
 
   module _ (held : Holds (Reachable M) starts) (e : firstTest ≡ true) where
     record Parts : Type 0 where
-      valid : validTest M starts (pair s t bytes) ≡ true
+      valid : validTest M starts (pair s t bytes) apart ≡ true
       size : length bytes ≡ 6
       others : allStarts starts (λ s′. allStarts starts (λ t′. allWords (M .inputs) 6 (noEarlier s′ t′))) ≡ true
 
@@ -329,7 +366,7 @@ module _ (M : Machine) (starts s t : ℕ) (bytes : List ℕ) where
     unfolding firstTest
     parts =
         let o = allStarts starts (λ s′. allStarts starts (λ t′. allWords (M .inputs) 6 (noEarlier s′ t′))) in
-        let x = both-true (validTest M starts (pair s t bytes)) (eqb (length bytes) 6 && o) e in
+        let x = both-true (validTest M starts (pair s t bytes) apart) (eqb (length bytes) 6 && o) e in
         let y = both-true (eqb (length bytes) 6) o (x .1) in
         record { valid = x .0; size = eqb-true _ _ (y .0); others = y .1 }
 
@@ -345,7 +382,7 @@ module _ (M : Machine) (starts s t : ℕ) (bytes : List ℕ) where
         let x = starts-at held (λ a. allStarts starts (λ b. allWords (M .inputs) 6 (noEarlier a b))) (parts .others) s′ (v .start first) in
         let y = starts-at held (λ b. allWords (M .inputs) 6 (noEarlier s′ b)) x t′ (v .start second) in
         let z = words-at (M .inputs) 6 (noEarlier s′ t′) y w l n in
-        lexicographic-test (s ∷ t ∷ bytes) (s′ ∷ t′ ∷ w) (rw (test-valid M starts (pair s′ t′ w) held v) at z)
+        lexicographic-test (s ∷ t ∷ bytes) (s′ ∷ t′ ∷ w) (rw (test-valid M held (pair s′ t′ w) v) at z)
 
     -- a valid pair with three letters in all has one in each loop and none between them and the mark
     three-letters :
@@ -369,7 +406,7 @@ module _ (M : Machine) (starts s t : ℕ) (bytes : List ℕ) where
         three-as e₁ e₂ e₃ e₄ h = rw (e₁, e₂, e₃, e₄) at h
 
     pub first-test : First (fromReachable M) (pair s t bytes)
-    first-test = record { valid = valid-test M starts (pair s t bytes) held (parts .valid); first = go }
+    first-test = record { valid = valid-test (fromReachable M) held apart apart-judged (pair s t bytes) (parts .valid); first = go }
       where
         go : (q : LoopedPair) → Valid (fromReachable M) q → Lexicographic (key (pair s t bytes)) (key q)
         go q v =

@@ -4,7 +4,7 @@
 -- (Alphabet.antt). Beside this file: reader and writer of coder files as inverses (Files.antt), refusal 10 by cases on O
 -- (TableLimit.antt), spare states (SpareStates.antt), what a settle count changes (SettleCounts.antt), that the checker accepts what the
 -- search gives (SearchChecked.antt), that a table shows whether its window works (TableShows.antt), that no promise is empty
--- (Exists.antt), the starred cases (Starred.antt). The runs that pairs go by start in reachable states (document 02, 5/13): `settingOf`.
+-- (Exists.antt), the starred cases (Starred.antt). The crate theorems_kinds has what is said of kinds of letter. The runs that pairs go by start in reachable states (document 02, 5/13): `settingOf`.
 -- Those of windows and answers start where as many letters as the settle count says lead from there (6/13): `settingAfter`, and of the
 -- decoder's calls `windowSetting`.
 use Prim.Native.Nat.{ℕ, _+_, _≤_, _<_}
@@ -56,13 +56,19 @@ use Rattle.search.specs.declared.SearchResult as search-result
 use Rattle.checker.specs.Check.{CheckedRight, CheckWith}
 use Rattle.checker.specs.declared.CheckResult.{CheckResult}
 use Rattle.checker.specs.declared.CheckResult as check-result
+use Rattle.search_kinds.specs.Search.{FoundKinds, SearchKindsWith}
+use Rattle.search_kinds.specs.declared.KindsResult.{KindsResult}
+use Rattle.search_kinds.specs.declared.KindsResult as kinds-result
+use Rattle.window_kinds.specs.Window.{AnsweredKinds, WindowKindsWith}
+use Rattle.window_kinds.specs.declared.WindowKindsResult.{WindowKindsResult}
+use Rattle.window_kinds.specs.declared.WindowKindsResult as window-kinds-result
 use Rattle.placing.specs.Placed.{withFront}
 use Rattle.writer.specs.Write.{WriteWith}
 use Rattle.decoder_host.specs.Laid.{WindowFromHost}
 use Rattle.layout.specs.Layout.{withFields, fieldAt}
 use Rattle.layout.specs.Host.{Laid, refused, LaidOut, Handed, FromHost}
 use Rattle.published.specs.Published.{Rule, firstNumber, Bytes, longEnough, fileRules, givenRun, givenSearch, givenCheck, givenWindow}
-use Rattle.published.specs.Published.{givenString, givenTable, givenWrite, resultGiven}
+use Rattle.published.specs.Published.{givenString, givenTable, givenSearchKinds, givenWindowKinds, givenWrite, resultGiven}
 use Rattle.theorems.specs.RoundTrip.{LettersComeBack, LettersComeBackFromC}
 
 -- ---- demand 1: accepted and answered, or refused by number with nothing changed
@@ -114,6 +120,14 @@ pub record Demand1 : Type 0 where
   pub check :
       (f : List ℕ) (q : mealy.LoopedPair) (others : List Bytes) (r : CheckResult) → CheckWith f q (longEnough others) r →
       Judged (givenCheck f q others) (λ k. r ≡ check-result.the-variants.Refused k) (CheckedRight f q r)
+  pub search-kinds :
+      (f kinds : List ℕ) (others : List Bytes) (r : KindsResult) → SearchKindsWith f kinds (longEnough others) r →
+      Judged (givenSearchKinds f kinds others) (λ k. r ≡ kinds-result.the-variants.Refused k) (FoundKinds f kinds r)
+  pub window-kinds :
+      (f kinds : List ℕ) (b a : ℕ) (received : List ℕ) (others : List Bytes) (r : WindowKindsResult) →
+      WindowKindsWith f kinds b a received (longEnough others) r →
+      Judged (givenWindowKinds f kinds b a received others) (λ k. r ≡ window-kinds-result.the-variants.Refused k)
+      (AnsweredKinds f kinds b received r)
   pub write :
       (n i o : ℕ) (entries before : List ℕ) (others : List Bytes) (r : CountResult) (after : List ℕ) →
       WriteWith n i o entries before (longEnough others) r after →

@@ -17,6 +17,10 @@ use Rattle.decoder.specs.Window.{WindowWith}
 use Rattle.decoder.specs.Places.{StringWith}
 use Rattle.decoder.specs.Table.{TableWith}
 use Rattle.decoder.specs.declared.WindowResult.{WindowResult}
+use Rattle.search_kinds.specs.Search.{SearchKindsWith}
+use Rattle.search_kinds.specs.declared.KindsResult.{KindsResult}
+use Rattle.window_kinds.specs.Window.{WindowKindsWith}
+use Rattle.window_kinds.specs.declared.WindowKindsResult.{WindowKindsResult}
 use Rattle.writer.specs.Write.{WriteWith}
 use Rattle.layout.specs.Host.{roomy, Laid, FromHost}
 
@@ -34,6 +38,10 @@ pub record OutcomesExist : Type 1 where
   pub table :
       (f : List ℕ) (w : Window) (before : List ℕ) (others : Bool) →
       (r : CountResult) × (after : List ℕ) × TableWith f w before others r after
+  pub search-kinds : (f kinds : List ℕ) (others : Bool) → (r : KindsResult) × SearchKindsWith f kinds others r
+  pub window-kinds :
+      (f kinds : List ℕ) (b a : ℕ) (received : List ℕ) (others : Bool) →
+      (r : WindowKindsResult) × WindowKindsWith f kinds b a received others r
   pub write :
       (n i o : ℕ) (entries before : List ℕ) (others : Bool) →
       (r : CountResult) × (after : List ℕ) × WriteWith n i o entries before others r after

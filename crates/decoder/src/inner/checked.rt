@@ -2,7 +2,9 @@
 ghost use mathlib.Core.Path.{_≡_};
 ghost use mathlib.Core.Bool.{true};
 ghost use Rattle.decoder_refusal.specs.Refusal.{windowRefusal};
-ghost use Rattle.decoder.specs.Window.{RightOf};
+ghost use Rattle.mealy.specs.Answer.{Fits};
+ghost use Rattle.mealy.specs.Word.{Holds};
+ghost use Rattle.decoder.specs.Window.{windowSetting, RightOf};
 ghost use Rattle.decoder.specs.Places.{StringAsked, StringGiven};
 ghost use Rattle.decoder.specs.Table.{TableAsked, TableGiven};
 use crate::inner::places::decode_places;
@@ -10,22 +12,23 @@ use chains::inner::rows_by_key;
 use coder::inner::tables::Coder;
 use decoder_refusal::inner::sizes;
 use filling::inner::table::fill;
+use fitting::inner::answer::answer_of;
 use fitting::inner::tables::of_coder;
-use fitting::inner::window::decode;
+use fitting::inner::window::fitting;
 use starts::inner::start_states;
 use table_size::inner::size;
 use values::Window;
 
-// Decodes one window of received letters.
-pub fn window(file: &[u8], w: Window, received: &[u8]) -> fitting::Answer
+// The letters that fit a window of received letters.
+pub fn letters(file: &[u8], w: Window, received: &[u8]) -> u16
     requires { ⌜ windowRefusal (now file) w (now received) true ≡ 0 ⌝ }
-    ensures { λ r. ⌜ RightOf (now (file .entry)) w (now (received .entry)) r ⌝ }
+    ensures { λ r. ⌜ Holds (Fits (windowSetting (now (file .entry)) w) (now (received .entry)) (w .before)) r ⌝ }
 {
     let c = Coder::from_checked(file);
     let starts = start_states(c, w.settle);
     let sets = of_coder(c);
     let place = w.before;
-    decode(
+    fitting(
         &c.next,
         &sets.successors,
         &sets.predecessors,
@@ -34,6 +37,14 @@ pub fn window(file: &[u8], w: Window, received: &[u8]) -> fitting::Answer
         received,
         place,
     )
+}
+
+// Decodes one window of received letters.
+pub fn window(file: &[u8], w: Window, received: &[u8]) -> fitting::Answer
+    requires { ⌜ windowRefusal (now file) w (now received) true ≡ 0 ⌝ }
+    ensures { λ r. ⌜ RightOf (now (file .entry)) w (now (received .entry)) r ⌝ }
+{
+    answer_of(letters(file, w, received))
 }
 
 // Decodes each place of a string that has a full window; returns how many bytes were written.

@@ -35,18 +35,7 @@ pub fn window(file: &[u8], w: Window, received: &[u8], fits: bool) -> usize
     if k != 0 {
         return k;
     }
-    if received.len() != sizes::letters(w) {
-        return 9;
-    }
-    if fits {
-        if letters_below(byte(file, 5), received) {
-            0
-        } else {
-            13
-        }
-    } else {
-        11
-    }
+    window_limits::inner::received(sizes::letters(w), byte(file, 5), received, fits)
 }
 
 // The refusal of a string, or 0.

@@ -1,0 +1,2 @@
+-- What the contracts of the kind list cite.
+pub mod KindList

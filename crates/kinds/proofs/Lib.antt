@@ -1,0 +1,8 @@
+-- The laws.
+pub mod Telling
+pub mod KindsAnswers
+pub mod KindsComeBack
+pub mod CarriedKinds
+pub mod Cannot
+pub mod Reports
+pub mod Examples

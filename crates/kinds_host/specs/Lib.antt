@@ -1,0 +1,2 @@
+-- What the contracts of the calls for kinds from C cite.
+pub mod Laid

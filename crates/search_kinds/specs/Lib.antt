@@ -1,0 +1,4 @@
+-- What the contracts of the search for kinds cite.
+pub mod Letters
+pub mod Tries
+pub mod Search

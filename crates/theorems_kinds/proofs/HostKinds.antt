@@ -1,0 +1,154 @@
+-- The calls for kinds from C: what a host reads from the fields of a report and of an answer, and what a coded string yields it.
+use mathlib.Core.Path.{_≡_, sym, ap, _∙_}
+use mathlib.Core.Bool.{true}
+use mathlib.Core.List.{List, [], _∷_}
+use mathlib.Core.Logic.{inl, inr}
+use Prim.Native.Nat.{ℕ, zero, suc, _+_, _≤_, _<_}
+use native.Mathlib.Omega.{arith}
+use lib.Dec.{lit<}
+use lib.ListN.{length, getD, take, drop}
+use Rattle.mealy.specs.Word.{Has}
+use Rattle.mealy.proofs.Letters.{letter-at}
+use Rattle.coder.specs.Refusal.{upon}
+use Rattle.coder.proofs.Accepted.{accepted}
+use Rattle.running.specs.Run.{RunWith}
+use Rattle.running_host.specs.Laid.{laidRun}
+use Rattle.values.specs.Window.{size}
+use Rattle.values.specs.declared.Window.{Window}
+use Rattle.layout.specs.Layout.{withFields, fieldAt}
+use Rattle.layout.specs.Host.{LaidOut}
+use Rattle.layout.proofs.Reading.{field-at}
+use Rattle.layout.proofs.Hosting.{from-host, answered-host}
+use Rattle.kinds.specs.KindsAnswer.{Yields}
+use Rattle.kind_list.specs.KindList.{kindOf}
+use Rattle.search_kinds.specs.Search.{searchKindsRefusal, FoundKinds, SearchKindsWith, SearchKindsPromise}
+use Rattle.search_kinds.specs.declared.KindsVerdict.{KindsVerdict}
+use Rattle.search_kinds.specs.declared.KindsVerdict.the-variants.{Cannot, Told}
+use Rattle.search_kinds.specs.declared.KindsResult.{KindsResult}
+use Rattle.search_kinds.specs.declared.KindsResult.the-variants.{Refused, Found}
+use Rattle.search_kinds.proofs.Reports.{report-says}
+use Rattle.window_kinds.specs.Answer.{meaning}
+use Rattle.window_kinds.specs.Window.{WindowKindsWith}
+use Rattle.window_kinds.specs.declared.KindsAnswer.{KindsAnswer}
+use Rattle.window_kinds.specs.declared.KindsAnswer.the-variants.{Letter, Kind, None, Several}
+use Rattle.kinds_host.specs.Laid.{kindsFields, laidKinds, laidAnswer, SearchKindsFromHost}
+use Rattle.window_kinds.specs.declared.WindowKindsResult.{WindowKindsResult}
+use Rattle.window_kinds.specs.declared.WindowKindsResult.the-variants.{Answered}
+use Rattle.kinds_host.proofs.Hosting.{search-kinds-others}
+use Rattle.theorems.proofs.RoundTrip.{not-refused}
+use Rattle.theorems.proofs.HostReads.{first-read, second-read}
+use Rattle.theorems_kinds.specs.Kinds.{HostYields, StringsYieldFromC, Kinds}
+use Rattle.theorems_kinds.proofs.Strings.{sides-high, strings-yield}
+use Rattle.theorems_kinds.proofs.Told.{reported}
+
+-- ---- a search that returned 0
+
+-- its report is one that the library's own search promises, and lies in the fields
+pub record ReportFromC (f kinds result result′ : List ℕ) : Type 0 where
+  pub verdict : KindsVerdict
+  pub promised : SearchKindsPromise f kinds (Found verdict)
+  pub fields : result′ ≡ withFields result (kindsFields verdict)
+
+pub report-from-C : (f kinds result result′ : List ℕ) → SearchKindsFromHost f kinds result 0 result′ → ReportFromC f kinds result result′
+report-from-C f kinds result result′ h =
+    let g = answered-host (SearchKindsWith f kinds) laidKinds (search-kinds-others f kinds) (omega arith) h in
+    let v = verdict (g .own) (searchKindsRefusal f kinds true) (g .promised) (sym (g .out .number)) in
+    record {
+      verdict = v .0;
+      promised = rw (v .1) at (g .promised);
+      fields = g .out .fields ∙ ap (λ (x : KindsResult). withFields result (laidKinds x .fields)) (v .1);
+    }
+  where
+    verdict :
+        (own : KindsResult) (k : ℕ) → upon k (λ j. own ≡ Refused j) (FoundKinds f kinds own) → laidKinds own .returned ≡ 0 →
+        (v : KindsVerdict) × (own ≡ Found v)
+    verdict own zero g z = (g .verdict, g .is)
+    verdict own (suc k) g z = let e = ap (λ (x : KindsResult). laidKinds x .returned) g in absurd (omega arith)
+
+-- ---- a report with a window, as the host reads it
+
+record ToldRead (f kinds result′ : List ℕ) : Type 0 where
+  carried : ℕ
+  told : Window
+  promised : SearchKindsPromise f kinds (Found (Told carried told))
+  before-read : fieldAt result′ 1 ≡ told .before
+  after-read : fieldAt result′ 2 ≡ told .after
+  carried-read : fieldAt result′ 3 ≡ carried
+
+told-read : (f kinds result result′ : List ℕ) → ReportFromC f kinds result result′ → fieldAt result′ 0 ≡ 0 → ToldRead f kinds result′
+told-read f kinds result result′ r e =
+    rw (r .fields) (go (r .verdict) (r .promised) (sym (ap (λ (x : List ℕ). fieldAt x 0) (r .fields)) ∙ e))
+  where
+    go :
+        (v : KindsVerdict) → SearchKindsPromise f kinds (Found v) → fieldAt (withFields result (kindsFields v)) 0 ≡ 0 →
+        ToldRead f kinds (withFields result (kindsFields v))
+    go Cannot p z = absurd (omega (arith, field-at result (kindsFields Cannot) 0 (lit< tt) (lit< tt)))
+    go (Told u w) p z =
+        let g = report-says f kinds (Told u w) p in
+        let ok = g .accepted-call .list .file in
+        let ns = kindsFields (Told u w) in
+        record {
+          carried = u;
+          told = w;
+          promised = p;
+          before-read = field-at result ns 1 (lit< tt) (omega (arith, sides-high f ok (g .says .before-small)));
+          after-read = field-at result ns 2 (lit< tt) (omega (arith, sides-high f ok (g .says .after-small)));
+          carried-read = field-at result ns 3 (lit< tt) (let b : u < 65536 = g .says .carried-are .bound in omega arith);
+        }
+
+-- ---- an answer, as the host reads it
+
+answer-read :
+    (kinds : List ℕ) (carried x : ℕ) → x < 16 → kindOf kinds x < 16 → (v : KindsAnswer) →
+    Yields (kindOf kinds) (Has carried) x (meaning v) → (own : WindowKindsResult) → own ≡ Answered v →
+    (result : List ℕ) {r : ℕ} {result′ : List ℕ} → LaidOut (laidAnswer own) result r result′ → HostYields kinds carried x r result′
+answer-read kinds carried x low kind-low (Letter y) p own e result out =
+    let d = ap laidAnswer e in
+    let f = first-read result (laidAnswer own) 0 (y ∷ []) d (lit< tt) out in
+    let s = second-read result (laidAnswer own) 0 y [] d (omega arith) out in
+    record { done = f .0; read = inl (f .1, s ∙ p) }
+answer-read kinds carried x low kind-low (Kind κ) p own e result out =
+    let d = ap laidAnswer e in
+    let f = first-read result (laidAnswer own) 1 (κ ∷ []) d (lit< tt) out in
+    let small = p .0 in
+    let s = second-read result (laidAnswer own) 1 κ [] d (omega arith) out in
+    record { done = f .0; read = inr (f .1, s ∙ p .0, p .1) }
+answer-read kinds carried x low kind-low None p own e result out = absurd p
+answer-read kinds carried x low kind-low Several p own e result out = absurd p
+
+-- ---- a coded string
+
+strings-yield-from-C : StringsYieldFromC
+strings-yield-from-C f kinds s xs coded small before₁ result₁ r₁ after₁ result₁′ room₁ long₁ ran result₂ result₂′ found is-told k full
+    result₃ r₃ result₃′ long₃ decoded =
+    let u = from-host (λ others own. RunWith f s xs before₁ others own after₁) laidRun long₁ ran in
+    let ended = rw (not-refused f s xs coded before₁ room₁) at (u .promised .result) in
+    let sent = first-read result₁ (laidRun (u .own)) (length xs) _ (ap laidRun ended) small (u .out) in
+    let t = told-read f kinds result₂ result₂′ (report-from-C f kinds result₂ result₂′ found) is-told in
+    let w = t .told in
+    let list = report-says f kinds (Told (t .carried) w) (t .promised) .accepted-call .list in
+    let full′ : k + size w ≤ length xs = rw (t .before-read, t .after-read) at full in
+    let part = take (size w) (drop k (take (length xs) after₁)) in
+    let v =
+    from-host (WindowKindsWith f kinds (w .before) (w .after) part) laidAnswer long₃
+    (rw (t .before-read, t .after-read, sent .1) at decoded) in
+    let y =
+    strings-yield f kinds s xs coded before₁ (u .own) after₁ room₁ (u .promised) (t .carried) w (t .promised) k full′ (v .own)
+    (v .promised) in
+    let x = getD xs (k + w .before) 0 in
+    let high = accepted f (coded .file) .entries .limits .inputs-high in
+    let low : x < 16 = omega (arith, letter-at _ xs (coded .letters) (k + w .before) (omega arith)) in
+    rw (t .before-read, t .carried-read)
+    (answer-read kinds (t .carried) x low (list .low x) (y .answer) (y .yields) (v .own) (y .is) result₃ (v .out))
+
+-- All that is said of kinds.
+pub kinds-hold : Kinds
+kinds-hold =
+    record {
+      strings = strings-yield;
+      strings-from-C = strings-yield-from-C;
+      search = reported;
+      search-from-C = λ f kinds result result′ h.
+          let r = report-from-C f kinds result result′ h in
+          (r .verdict, r .fields, reported f kinds (r .verdict) (r .promised));
+    }

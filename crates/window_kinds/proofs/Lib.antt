@@ -1,0 +1,4 @@
+-- The laws.
+pub mod SetAnswers
+pub mod Accepting
+pub mod Determined

@@ -1,0 +1,3 @@
+-- What the contracts of the decoder of kinds cite.
+pub mod Answer
+pub mod Window
