@@ -16,6 +16,7 @@ enum { TURNS = 15, LETTERS = 20000, TABLE = 65536, CODERS = 200 };
 static coder_file file;
 static uint8_t input[LETTERS], sent[LETTERS], mine[TABLE], theirs[TABLE];
 static uint8_t my_letters[1026], their_letters[1026], result[64];
+static uint8_t kinds[16];
 static size_t before, after, settle, letters; /* the settle count is 0 but in bench_settle */
 
 static uint64_t field(int k)
@@ -100,6 +101,32 @@ static size_t do_plain_write(void)
 {
     return plain_write(file.bytes[3], file.bytes[4], file.bytes[5], file.bytes + 6, file.len - 6, theirs, sizeof theirs,
                        &plain_count);
+}
+
+static size_t do_search_kinds(void)
+{
+    return lowhenita_search_kinds(file.bytes, file.len, kinds, file.bytes[4], result, sizeof result);
+}
+
+static plain_kinds of_kinds;
+
+static size_t do_plain_search_kinds(void)
+{
+    return plain_search_kinds(file.bytes, file.len, kinds, file.bytes[4], &of_kinds);
+}
+
+static size_t do_window_kinds(void)
+{
+    return lowhenita_window_kinds(file.bytes, file.len, kinds, file.bytes[4], before, after, sent, before + 1 + after,
+                                  result, sizeof result);
+}
+
+static size_t plain_answer, plain_number;
+
+static size_t do_plain_window_kinds(void)
+{
+    return plain_window_kinds(file.bytes, file.len, kinds, file.bytes[4], before, after, sent, before + 1 + after,
+                              &plain_answer, &plain_number);
 }
 
 /* Seconds for `times` calls. */
@@ -297,6 +324,198 @@ static void bench_all_pairs(void)
         bench_pairs(counts[k][0], counts[k][1], counts[k][2]);
 }
 
+/* ---- kinds ---- */
+
+static void same_search_kinds(const char *name)
+{
+    if (do_search_kinds() != 0 || do_plain_search_kinds() != 0 || field(0) != (uint64_t)!of_kinds.told)
+        unequal(name);
+    if (of_kinds.told
+        && (field(1) != of_kinds.before || field(2) != of_kinds.after || field(3) != of_kinds.carried))
+        unequal(name);
+}
+
+/* The least of several timings of one call, a short one 16 times in a row. */
+static double least_time(size_t (*work)(void))
+{
+    int times = timed(work, 1) < 2e-5 ? 16 : 1, turn;
+    double least = 1e9, x;
+
+    for (turn = 0; turn < TURNS; turn++) {
+        x = timed(work, times) / times;
+        least = x < least ? x : least;
+    }
+    return least;
+}
+
+/* Each letter of `many` kinds, which kinds they are and which letter has which at random. */
+static void draw_kinds(size_t many)
+{
+    uint8_t of[16];
+    size_t inputs = file.bytes[4], k;
+
+    for (k = 0; k < inputs; k++)
+        of[k] = (uint8_t)k;
+    shuffle(of, inputs);
+    for (k = 0; k < inputs; k++)
+        kinds[k] = of[k % many];
+    shuffle(kinds, inputs);
+}
+
+/* A random coder with half of its letters in their places twice, and `many` kinds of the half. */
+static void draw_filled(size_t states, size_t inputs, size_t outputs, size_t many)
+{
+    uint8_t of[16];
+    coder_file base;
+    size_t k;
+
+    drawn_coder(states, inputs / 2, outputs);
+    base = file;
+    for (k = 0; k < inputs; k++)
+        of[k] = (uint8_t)(k % (inputs / 2));
+    shuffle(of, inputs);
+    make_filled(&file, &base, inputs, of);
+    for (k = 0; k < inputs; k++)
+        kinds[k] = (uint8_t)(of[k] % many);
+}
+
+/* Any random coder; one with a window for letters; one with filler. */
+enum { ANY, WITH_WINDOW, WITH_FILLER };
+
+static void draw_with_kinds(int which, size_t states, size_t inputs, size_t outputs, size_t many)
+{
+    if (which == WITH_FILLER) {
+        draw_filled(states, inputs, outputs, many);
+        return;
+    }
+    do
+        drawn_coder(states, inputs, outputs);
+    while (which == WITH_WINDOW && (do_plain_search() != 0 || verdict.is_pair));
+    draw_kinds(many);
+}
+
+/* The times of searches for kinds, beside plain C and beside the search for letters on the same coders. */
+typedef struct kinds_times {
+    unsigned coders, told, lacking;
+    double library, plain, letters, highest;
+} kinds_times;
+
+static kinds_times all_kinds;
+
+static void add_times(kinds_times *sum, double library, double plain, double of_letters)
+{
+    sum->coders++;
+    sum->told += of_kinds.told != 0;
+    sum->lacking += of_kinds.told && of_kinds.carried + 1 < (size_t)1 << file.bytes[4];
+    sum->library += library;
+    sum->plain += plain;
+    sum->letters += of_letters;
+    sum->highest = library / of_letters > sum->highest ? library / of_letters : sum->highest;
+}
+
+static void time_kinds(const char *name, kinds_times *sum)
+{
+    double l, p, s;
+
+    same_search_kinds(name);
+    l = least_time(do_search_kinds);
+    p = least_time(do_plain_search_kinds);
+    s = least_time(do_search);
+    add_times(sum, l, p, s);
+    add_times(&all_kinds, l, p, s);
+}
+
+static void print_times(const char *name, const kinds_times *sum)
+{
+    printf("  (%u told, %u with a kind not carried)\n", sum->told, sum->lacking);
+    printf("%-58s %10.2f us %10.2f us %12s   ratio %.2f   letters %.2f us, ratio of sums %.2f, highest %.2f\n", name,
+           sum->library / sum->coders * 1e6, sum->plain / sum->coders * 1e6, "", sum->library / sum->plain,
+           sum->letters / sum->coders * 1e6, sum->library / sum->letters, sum->highest);
+    fflush(stdout);
+}
+
+/* Random coders, of up to `outputs` letters, with random kinds. */
+static void bench_kinds(int which, const size_t row[4])
+{
+    static const char *const names[3] = {"", " with window", " with filler"};
+    kinds_times sum;
+    char name[100];
+    int k;
+
+    memset(&sum, 0, sizeof sum);
+    sprintf(name, "kinds: %d coders%s, %lu %lu %lu, %lu kinds", CODERS / 4, names[which], (unsigned long)row[0],
+            (unsigned long)row[1], (unsigned long)row[2], (unsigned long)row[3]);
+    for (k = 0; k < CODERS / 4; k++) {
+        draw_with_kinds(which, row[0], row[1], row[2], row[3]);
+        time_kinds(name, &sum);
+    }
+    print_times(name, &sum);
+}
+
+/* Chains, whose windows are long, with one kind and with as many as there are letters. */
+static void bench_chain_kinds(const char *name)
+{
+    size_t many[3] = {1, 8, 16}, k;
+    kinds_times sum;
+
+    memset(&sum, 0, sizeof sum);
+    for (k = 0; k < 3; k++) {
+        draw_kinds(many[k] < file.bytes[4] ? many[k] : file.bytes[4]);
+        time_kinds(name, &sum);
+    }
+    print_times(name, &sum);
+}
+
+static void bench_window_kinds(const char *name, size_t b, size_t a)
+{
+    size_t k;
+
+    before = b;
+    after = a;
+    letters = b + 1 + a;
+    for (k = 0; k < letters; k++)
+        input[k] = (uint8_t)random_below(file.bytes[4]);
+    if (do_run() != 0)
+        unequal(name);
+    memcpy(sent, mine, letters);
+    if (do_window_kinds() != 0 || do_plain_window_kinds() != 0 || field(0) != plain_answer
+        || (plain_answer < 2 && field(1) != plain_number))
+        unequal(name);
+    compare(name, do_window_kinds, do_plain_window_kinds, 0);
+}
+
+static void bench_all_kinds(void)
+{
+    static const struct {
+        int which;
+        size_t row[4];
+    } rows[] = {
+        {ANY, {2, 4, 3, 2}},           {ANY, {4, 16, 1, 1}},          {ANY, {8, 8, 4, 3}},
+        {ANY, {16, 16, 1, 1}},         {ANY, {16, 16, 1, 8}},         {ANY, {16, 16, 4, 1}},
+        {ANY, {16, 16, 4, 8}},         {ANY, {16, 16, 4, 16}},        {ANY, {16, 16, 64, 1}},
+        {ANY, {16, 16, 64, 8}},        {ANY, {16, 16, 64, 16}},       {ANY, {16, 4, 2, 1}},
+        {WITH_WINDOW, {1, 2, 2, 2}},   {WITH_WINDOW, {1, 8, 64, 8}},  {WITH_WINDOW, {2, 6, 64, 1}},
+        {WITH_WINDOW, {2, 4, 8, 2}},   {WITH_WINDOW, {4, 4, 16, 1}},  {WITH_WINDOW, {8, 4, 32, 4}},
+        {WITH_WINDOW, {8, 6, 64, 1}},  {WITH_WINDOW, {16, 4, 64, 1}}, {WITH_WINDOW, {16, 4, 64, 4}},
+        {WITH_FILLER, {4, 4, 8, 2}},   {WITH_FILLER, {8, 8, 32, 3}},  {WITH_FILLER, {16, 16, 64, 1}},
+        {WITH_FILLER, {16, 16, 64, 8}}, {WITH_FILLER, {16, 8, 64, 4}}
+    };
+    size_t k;
+
+    for (k = 0; k < sizeof rows / sizeof *rows; k++)
+        bench_kinds(rows[k].which, rows[k].row);
+    make_forward_chain(&file, 16, 14);
+    bench_chain_kinds("kinds: chain, 16 states, long lookahead");
+    make_backward_chain(&file, 16, 14);
+    bench_chain_kinds("kinds: chain, 16 states, many letters before");
+    make_closed_both(&file, 16, 14);
+    bench_chain_kinds("kinds: closed chain, 16 states");
+    print_times("kinds: all of these", &all_kinds);
+    draw_filled(16, 16, 64, 8);
+    bench_window_kinds("window of kinds: 16 states, 16 inputs, 64 outputs, 3 2", 3, 2);
+    bench_window_kinds("window of kinds: 16 states, 16 inputs, 64 outputs, 136 136", 136, 136);
+}
+
 /* The largest settle count: a line of states that the letters ahead of the window leave one by one, and a coder in
    which they leave none. */
 static void bench_settle(void)
@@ -366,5 +585,6 @@ int main(void)
     bench_table("table: 16 states, 16 inputs, 4 outputs, 65,536 bytes", 4, 3);
     bench_all_pairs();
     bench_settle();
+    bench_all_kinds();
     return 0;
 }

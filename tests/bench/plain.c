@@ -1,5 +1,5 @@
-/* Plain C versions of run, search, string decoder, table and writer. Sets of states and of letters are machine
-   words, sets of pairs of states 16 of them. */
+/* Plain C versions of run, search, string decoder, table and writer, and of the search and the decoder for kinds.
+   Sets of states and of letters are machine words, sets of pairs of states 16 of them. */
 #include "plain.h"
 
 #include <string.h>
@@ -186,8 +186,9 @@ static uint8_t answer(unsigned letters)
     return letters & (letters - 1) ? 255 : (uint8_t)__builtin_ctz(letters);
 }
 
-/* One window: forward to the present letter, backward from the end, and the entries between the two. */
-static uint8_t decode_window(const coder *c, const sets *d, const uint8_t *w, size_t before, size_t after)
+/* The letters that fit one window: forward to the present letter, backward from the end, and the entries between the
+   two. */
+static unsigned fitting(const coder *c, const sets *d, const uint8_t *w, size_t before, size_t after)
 {
     unsigned f = c->starts, g = d->all, found = 0;
     const uint16_t *letters = d->letters[w[before]];
@@ -196,7 +197,7 @@ static uint8_t decode_window(const coder *c, const sets *d, const uint8_t *w, si
     for (k = 0; k < before && f; k++)
         f = image(d->to[w[k]], f);
     if (!f)
-        return 254;
+        return 0;
     for (k = before + after; k > before && g; k--)
         g = image(d->from[w[k]], g);
     for (; f; f &= f - 1) {
@@ -207,7 +208,12 @@ static uint8_t decode_window(const coder *c, const sets *d, const uint8_t *w, si
             if (g >> c->next[16 * s + (size_t)__builtin_ctz(x)] & 1)
                 found |= x & -x;
     }
-    return answer(found);
+    return found;
+}
+
+static uint8_t decode_window(const coder *c, const sets *d, const uint8_t *w, size_t before, size_t after)
+{
+    return answer(fitting(c, d, w, before, after));
 }
 
 size_t plain_decode(const uint8_t *file, size_t file_len, size_t before, size_t after, size_t settle,
@@ -605,12 +611,28 @@ static void find_pair(const coder *c, uint8_t *letters, plain_verdict *v)
 
 /* ---- window or pair ---- */
 
+/* worst[f]: the greatest back depth of the entries in the way whose forward depth is f. With lookahead a, an entry stands
+   in the way up to its back depth while a is below its forward depth. */
+static void least_window(const uint8_t worst[256], size_t *before, size_t *after)
+{
+    size_t a, r = 0;
+
+    for (a = 255; a-- > 0;) {
+        if (r < worst[a + 1])
+            r = worst[a + 1];
+        if (r < ENDLESS && a <= 136) { /* the last one has least lookahead */
+            *before = r;
+            *after = a;
+        }
+    }
+}
+
 size_t plain_search(const uint8_t *file, size_t file_len, size_t settle, uint8_t *letters, size_t letters_len,
                     plain_verdict *v)
 {
     coder c;
     uint8_t back[16][16], forward[16][16], source[256], worst[256];
-    size_t x, y, i, j, s, t, a, r = read_coder(file, file_len, &c);
+    size_t x, y, i, j, s, t, r = read_coder(file, file_len, &c);
 
     if (r)
         return r;
@@ -645,15 +667,97 @@ size_t plain_search(const uint8_t *file, size_t file_len, size_t settle, uint8_t
                         worst[f] = b;
                 }
             }
-    /* with lookahead a, an edge stands in the way up to its back depth while a is below its forward depth */
     v->is_pair = 0;
-    for (a = 255, r = 0; a-- > 0;) {
-        if (r < worst[a + 1])
-            r = worst[a + 1];
-        if (r < ENDLESS && a <= 136) { /* the last one has least lookahead */
-            v->before = r;
-            v->after = a;
-        }
+    least_window(worst, &v->before, &v->after);
+    return 0;
+}
+
+/* ---- kinds ---- */
+
+size_t plain_search_kinds(const uint8_t *file, size_t file_len, const uint8_t *kinds, size_t kinds_len, plain_kinds *v)
+{
+    coder c;
+    uint8_t back[16][16], forward[16][16], source[256], worst[17][256]; /* 16: of different kinds; else by kind */
+    size_t x, y, i, j, s, t, k, r = read_coder(file, file_len, &c);
+
+    if (r)
+        return r;
+    if (kinds_len != c.inputs || !below(kinds, kinds_len, c.inputs))
+        return 16;
+    for (x = 0; x < 256; x++)
+        source[x] = (uint8_t)(x / 16);
+    find_starts(&c, 0);
+    depths(&c, c.starts, c.next, source, back);
+    depths(&c, c.reachable, source, c.next, forward);
+    memset(worst, 0, sizeof worst);
+    v->carried = ((size_t)1 << c.inputs) - 1;
+    for (s = 0; s < c.states; s++)
+        for (i = 0; i < c.inputs; i++)
+            for (t = 0; t < c.states; t++) {
+                uint8_t b = back[s][t];
+
+                x = 16 * s + i;
+                for (j = 0; j < c.inputs; j++) {
+                    uint8_t f;
+
+                    y = 16 * t + j;
+                    if (i == j || c.out[x] != c.out[y])
+                        continue;
+                    f = forward[c.next[x]][c.next[y]];
+                    k = kinds[i] == kinds[j] ? kinds[i] : 16;
+                    if (b == ENDLESS && f == ENDLESS) {
+                        if (k == 16) {
+                            v->told = 0;
+                            return 0;
+                        }
+                        v->carried &= ~((size_t)1 << k);
+                    }
+                    if (worst[k][f] < b)
+                        worst[k][f] = b;
+                }
+            }
+    for (k = 0; k < 16; k++)
+        for (x = 0; x < 256 && v->carried >> k & 1; x++)
+            if (worst[16][x] < worst[k][x])
+                worst[16][x] = worst[k][x];
+    v->told = 1;
+    least_window(worst[16], &v->before, &v->after);
+    return 0;
+}
+
+size_t plain_window_kinds(const uint8_t *file, size_t file_len, const uint8_t *kinds, size_t kinds_len, size_t before,
+                          size_t after, const uint8_t *received, size_t received_len, size_t *result, size_t *number)
+{
+    coder c;
+    sets d;
+    unsigned letters, of = 0, x;
+    size_t r = read_coder(file, file_len, &c);
+
+    if (r)
+        return r;
+    if (kinds_len != c.inputs || !below(kinds, kinds_len, c.inputs))
+        return 16;
+    if (before > 136 || after > 136)
+        return 8;
+    if (received_len != before + 1 + after)
+        return 9;
+    if (!below(received, received_len, c.outputs))
+        return 13;
+    find_starts(&c, 0);
+    make_sets(&c, &d);
+    letters = fitting(&c, &d, received, before, after);
+    for (x = letters; x; x &= x - 1)
+        of |= 1u << kinds[__builtin_ctz(x)];
+    if (!letters) {
+        *result = 2;
+    } else if (!(letters & (letters - 1))) {
+        *result = 0;
+        *number = (size_t)__builtin_ctz(letters);
+    } else if (!(of & (of - 1))) {
+        *result = 1;
+        *number = (size_t)__builtin_ctz(of);
+    } else {
+        *result = 3;
     }
     return 0;
 }

@@ -28,4 +28,18 @@ typedef struct plain_verdict {
 size_t plain_search(const uint8_t *file, size_t file_len, size_t settle, uint8_t *letters,
                     size_t letters_len, plain_verdict *verdict);
 
+/* The search for kinds: whether they can be told; then the window, and the carried kinds, bit k for kind k. */
+typedef struct plain_kinds {
+    int told;
+    size_t before, after, carried;
+} plain_kinds;
+
+size_t plain_search_kinds(const uint8_t *file, size_t file_len, const uint8_t *kinds, size_t kinds_len,
+                          plain_kinds *verdict);
+
+/* *answer becomes 0 for a letter, 1 for a kind, 2 for none, 3 for several; for the first two, *number the letter or
+   the kind. */
+size_t plain_window_kinds(const uint8_t *file, size_t file_len, const uint8_t *kinds, size_t kinds_len, size_t before,
+                          size_t after, const uint8_t *received, size_t received_len, size_t *answer, size_t *number);
+
 #endif

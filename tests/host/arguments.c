@@ -4,6 +4,7 @@
 #include <string.h>
 
 uint8_t letters_room[LENT_ROOM];
+uint8_t kinds_room[KINDS_ROOM];
 
 arguments plain(enum call call, const coder_file *f)
 {
@@ -16,6 +17,9 @@ arguments plain(enum call call, const coder_file *f)
         a.counts[k] = f->bytes[3 + k];
     a.file = f->bytes;
     a.file_len = f->len;
+    a.kinds = kinds_room;
+    a.kinds_len = f->bytes[4];
+    memset(kinds_room, 0, sizeof kinds_room);
     a.bytes = letters_room;
     a.result_len = RESULT_BYTES;
     return a;
@@ -36,6 +40,16 @@ void random_letters(size_t n, size_t limit)
 
     for (k = 0; k < n; k++)
         letters_room[k] = (uint8_t)random_below(limit);
+}
+
+void random_kinds(size_t n)
+{
+    size_t many = 1 + random_below(n), of[MOST_INPUTS], k;
+
+    for (k = 0; k < many; k++)
+        of[k] = random_below(n);
+    for (k = 0; k < n; k++)
+        kinds_room[k] = (uint8_t)of[random_below(many)];
 }
 
 size_t random_settle(void)
@@ -191,6 +205,7 @@ arguments random_arguments(enum call call, const coder_file *f)
 
     a.result_len += random_below(3) == 0 ? random_below(40) : 0;
     a.settle = random_settle();
+    random_kinds(c.inputs);
     switch (call) {
     case CALL_RUN:
         a.start = random_below(c.states);
@@ -212,7 +227,10 @@ arguments random_arguments(enum call call, const coder_file *f)
     case CALL_CHECK:
         random_pair(&a, &c);
         break;
+    case CALL_SEARCH_KINDS:
+        break;
     case CALL_WINDOW:
+    case CALL_WINDOW_KINDS:
         random_sides(&a);
         a.bytes_len = a.before + 1 + a.after;
         random_received(&c, a.bytes_len);

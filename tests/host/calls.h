@@ -11,10 +11,18 @@
 /* The letters of all arguments made here. */
 extern uint8_t letters_room[LENT_ROOM];
 
-/* Arguments with this coder, its counts, no letters or entries and the least result; all else 0. */
+/* The kinds of all arguments made here. */
+enum { KINDS_ROOM = 512 };
+extern uint8_t kinds_room[KINDS_ROOM];
+
+/* Arguments with this coder, its counts, no letters or entries and the least result; all else 0, the
+   kinds of its letters too. */
 arguments plain(enum call call, const coder_file *f);
 
 void random_letters(size_t n, size_t limit);
+
+/* Kinds for n letters: some of the numbers below n, few or many, and each letter has one of them. */
+void random_kinds(size_t n);
 size_t power(size_t base, size_t n);
 
 /* A settle count that a call takes: mostly a small one, at times 0, 15, 64 or any. */

@@ -177,11 +177,16 @@ void text_reader_refused(size_t number)
     count_case();
 }
 
+static void put_list(const uint8_t *bytes, size_t len)
+{
+    put(len > 0 ? "" : " -");
+    put_bytes(bytes, len);
+}
+
 static void put_writer(const size_t counts[3], const uint8_t *entries, size_t len, size_t lent)
 {
     put("write %zu %zu %zu on", counts[0], counts[1], counts[2]);
-    put(len > 0 ? "" : " -");
-    put_bytes(entries, len);
+    put_list(entries, len);
     put(" into %zu = ", lent);
     count_case();
 }
@@ -200,6 +205,56 @@ void text_writer_refused(const size_t counts[3], const uint8_t *entries, size_t 
     put_writer(counts, entries, len, lent);
     put("refused %zu", number);
     put_buffer(lent, NULL, 0);
+}
+
+static void put_call_for_kinds(const arguments *a)
+{
+    if (a->call == CALL_SEARCH_KINDS) {
+        put("kinds on");
+        put_list(a->kinds, a->kinds_len);
+    } else {
+        put("decode_kinds %zu %zu by", a->before, a->after);
+        put_list(a->kinds, a->kinds_len);
+        put(" on");
+        put_list(a->bytes, a->bytes_len);
+    }
+    put(" = ");
+    count_case();
+}
+
+static void put_answer_for_kinds(enum call call, const uint8_t *result)
+{
+    static const char *const words[KINDS_ANSWERS] = {"letter %zu\n", "kind %zu\n", "none\n",
+                                                     "several\n"};
+    size_t first = get_field(result, 0), number = get_field(result, 1);
+
+    if (call == CALL_WINDOW_KINDS)
+        put(words[first], number);
+    else if (first == 0)
+        put("told %zu %zu %zu\n", number, (size_t)get_field(result, 2),
+            (size_t)get_field(result, 3));
+    else
+        put("cannot\n");
+}
+
+void text_kinds(const arguments *a)
+{
+    uint8_t result[RESULT_BYTES] = {0};
+    arguments b = *a;
+    size_t number;
+
+    b.result_len = RESULT_BYTES;
+    number = refusal_of_call(&b);
+    allow_steps(ANSWER_STEPS);
+    if (number == 0 && !expected_answer(&b, NULL, result)) {
+        now.cases_left++;
+        return;
+    }
+    put_call_for_kinds(a);
+    if (number != 0)
+        put("refused %zu\n", number);
+    else
+        put_answer_for_kinds(a->call, result);
 }
 
 void close_texts(void)

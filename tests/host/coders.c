@@ -211,6 +211,32 @@ void change_entry(coder_file *f)
     renumber_letters(f);
 }
 
+/* ---- letters with equal entries ---- */
+
+void shuffle(uint8_t *bytes, size_t n)
+{
+    size_t k;
+
+    for (k = n; k > 1; k--) {
+        size_t j = random_below(k);
+        uint8_t kept = bytes[k - 1];
+
+        bytes[k - 1] = bytes[j];
+        bytes[j] = kept;
+    }
+}
+
+void make_filled(coder_file *f, const coder_file *base, size_t inputs, const uint8_t *of)
+{
+    size_t states = base->bytes[3], letters = base->bytes[4], s, k;
+
+    begin_file(f, states, inputs, base->bytes[5]);
+    for (s = 0; s < states; s++)
+        for (k = 0; k < inputs; k++)
+            memcpy(f->bytes + 6 + 2 * (s * inputs + k),
+                   base->bytes + 6 + 2 * (s * letters + of[k]), 2);
+}
+
 /* ---- faults ---- */
 
 /* A file too short; one byte changed; a letter more. */

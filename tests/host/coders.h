@@ -52,6 +52,13 @@ void draw_entries(coder_file *f, size_t states, size_t inputs, size_t outputs);
 void make_numbered(coder_file *f, size_t states, size_t inputs, size_t outputs, size_t number);
 void make_random(coder_file *f, size_t states, size_t inputs, size_t outputs);
 
+/* The coder with so many input letters: letter k has the entries of letter of[k] of the coder in
+   every state. Each letter of the coder is among them. */
+void make_filled(coder_file *f, const coder_file *base, size_t inputs, const uint8_t *of);
+
+/* The bytes in any order. */
+void shuffle(uint8_t *bytes, size_t n);
+
 /* A line of states, each entered from the one before it alone and whatever the letter, that ends in
    state 0 of a coder: its states come after the line's. The states of the line put out one letter
    that the coder has not. */

@@ -8,20 +8,21 @@
 
 #include <string.h>
 
-static lent file_buffer, bytes_buffer, lent_buffer, result_buffer;
+static lent file_buffer, kinds_buffer, bytes_buffer, lent_buffer, result_buffer;
 static int again; /* the call under way is made by write_again */
 static uint8_t wanted_lent[LENT_ROOM], wanted_result[LENT_ROOM];
 
 void open_buffers(void)
 {
     lent_open(&file_buffer);
+    lent_open(&kinds_buffer);
     lent_open(&bytes_buffer);
     lent_open(&lent_buffer);
     lent_open(&result_buffer);
 }
 
-static size_t call_library(const arguments *a, const uint8_t *file, const uint8_t *bytes,
-                           uint8_t *lent, uint8_t *result)
+static size_t call_library(const arguments *a, const uint8_t *file, const uint8_t *kinds,
+                           const uint8_t *bytes, uint8_t *lent, uint8_t *result)
 {
     switch (a->call) {
     case CALL_RUN:
@@ -43,6 +44,12 @@ static size_t call_library(const arguments *a, const uint8_t *file, const uint8_
     case CALL_WRITE:
         return lowhenita_write(a->counts[0], a->counts[1], a->counts[2], bytes, a->bytes_len, lent,
                                a->lent_len, result, a->result_len);
+    case CALL_SEARCH_KINDS:
+        return lowhenita_search_kinds(file, a->file_len, kinds, a->kinds_len, result,
+                                      a->result_len);
+    case CALL_WINDOW_KINDS:
+        return lowhenita_window_kinds(file, a->file_len, kinds, a->kinds_len, a->before, a->after,
+                                      bytes, a->bytes_len, result, a->result_len);
     default:
         return lowhenita_table(file, a->file_len, a->before, a->after, a->settle, lent, a->lent_len,
                                result, a->result_len);
@@ -77,8 +84,8 @@ static void same_bytes(const char *name, const lent *b, const uint8_t *wanted, s
 
 static int fits_in_buffers(const arguments *a)
 {
-    return a->file_len <= LENT_ROOM && a->bytes_len <= LENT_ROOM && a->lent_len <= LENT_ROOM
-        && a->result_len <= LENT_ROOM;
+    return a->file_len <= LENT_ROOM && a->kinds_len <= LENT_ROOM && a->bytes_len <= LENT_ROOM
+        && a->lent_len <= LENT_ROOM && a->result_len <= LENT_ROOM;
 }
 
 /* The lent buffers hold patterns before the call, and so do the wanted ones. */
@@ -91,17 +98,18 @@ static void fill_wanted(const arguments *a, size_t seed)
 /* Calls the library, the wanted buffers as they should be after it; a search is judged instead. */
 static reply call_and_compare(const arguments *a, size_t wanted, size_t seed)
 {
-    uint8_t *file, *bytes, *lent, *result;
+    uint8_t *file, *kinds, *bytes, *lent, *result;
     reply got;
 
     now.comparisons++;
     if (!again)
         now.wanted[a->call][wanted]++;
     file = or_null(lent_copy(&file_buffer, a->file, a->file_len), a->file_len);
+    kinds = or_null(lent_copy(&kinds_buffer, a->kinds, a->kinds_len), a->kinds_len);
     bytes = or_null(lent_copy(&bytes_buffer, a->bytes, a->bytes_len), a->bytes_len);
     lent = or_null(lent_fill(&lent_buffer, a->lent_len, seed), a->lent_len);
     result = or_null(lent_fill(&result_buffer, a->result_len, seed + 1), a->result_len);
-    got.returned = call_library(a, file, bytes, lent, result);
+    got.returned = call_library(a, file, kinds, bytes, lent, result);
     got.lent = lent_buffer.end - a->lent_len;
     got.result = result_buffer.end - a->result_len;
     if (got.returned != wanted)
@@ -109,6 +117,7 @@ static reply call_and_compare(const arguments *a, size_t wanted, size_t seed)
     else if (wanted == 0 && a->call == CALL_SEARCH)
         judge_search(a, got.lent, got.result, wanted_lent, wanted_result);
     same_bytes("the file", &file_buffer, a->file, a->file_len);
+    same_bytes("the kinds", &kinds_buffer, a->kinds, a->kinds_len);
     same_bytes("the letters or entries", &bytes_buffer, a->bytes, a->bytes_len);
     same_bytes("the lent buffer", &lent_buffer, wanted_lent, a->lent_len);
     same_bytes("the result", &result_buffer, wanted_result, a->result_len);

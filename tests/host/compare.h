@@ -6,7 +6,7 @@
 #include "enumerator.h"
 
 enum {
-    NUMBERS = 16,          /* what a call returns: 0 and the refusals 1 to 15 */
+    NUMBERS = 17,          /* what a call returns: 0 and the refusals 1 to 16 */
     MOST_RUNS = 30000,     /* runs grouped by output string for one length of window */
     PAIR_STEPS = 20000,    /* steps for one window by pairs of runs */
     FIRST_STEPS = 100000,  /* steps for one first pair of a small coder by trying */
@@ -68,18 +68,6 @@ reply compare(const arguments *a);
 reply compare_known(const arguments *a, const uint8_t *bytes, size_t count);
 
 /* ---- trying.c ---- */
-
-/* A coder that is kept, without a settle count, to know whether another one comes. */
-typedef struct kept_coder {
-    size_t states, inputs, outputs;
-    uint8_t entries[2 * MOST_STATES * MOST_INPUTS];
-} kept_coder;
-
-/* Whether the coder is another than the one kept; it is kept then. */
-int another_coder(kept_coder *kept, const coder *c);
-
-/* The bound of a side of a window that is reported: N (N + 1) / 2. */
-size_t side_bound(const coder *c);
 
 /* Whether the window fails, with the coder's settle count. */
 enum answer window_fails(const coder *c, size_t before, size_t after);

@@ -15,8 +15,10 @@ static const char *group_name;
 static unsigned long differences;
 static unsigned groups_passed, groups_failed;
 
-/* The call to show: a copy, since the arguments may be gone when a known value differs. */
+/* The call to show: a copy, with its kinds, since the arguments may be gone when a known value
+   differs. */
 static arguments shown;
+static uint8_t shown_kinds[512];
 static int call_shown;
 
 /* ---- groups ---- */
@@ -71,7 +73,8 @@ int end_groups(void)
 const char *call_name(enum call call)
 {
     static const char *const names[CALLS] = {"run", "search", "decode", "check", "window",
-                                              "table", "write"};
+                                              "table", "write", "search_kinds",
+                                              "window_kinds"};
 
     return names[call];
 }
@@ -96,14 +99,21 @@ static void print_call(const arguments *a)
            p->lead_in, p->lead_out, p->forward_loop, a->counts[0], a->counts[1], a->counts[2],
            a->lent_len, a->result_len);
     print_bytes("file", a->file, a->file_len);
+    print_bytes("kinds", a->kinds, a->kinds_len);
     print_bytes("letters or entries", a->bytes, a->bytes_len);
 }
 
 void show_call(const arguments *a)
 {
     call_shown = a != NULL;
-    if (a)
-        shown = *a;
+    if (!a)
+        return;
+    shown = *a;
+    if (shown.kinds_len > sizeof shown_kinds)
+        shown.kinds_len = sizeof shown_kinds;
+    if (shown.kinds_len > 0)
+        memcpy(shown_kinds, a->kinds, shown.kinds_len);
+    shown.kinds = shown_kinds;
 }
 
 void differ(const char *what, ...)

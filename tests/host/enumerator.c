@@ -1,6 +1,8 @@
 /* The brute-force enumerator: the coder of a file, its runs, and what an accepted call writes. */
 #include "enumerator.h"
 
+#include <string.h>
+
 /* ---- the coder and its runs ---- */
 
 coder coder_of_file(const uint8_t *file)
@@ -29,6 +31,25 @@ size_t next_state(const coder *c, size_t state, size_t input)
 size_t output_letter(const coder *c, size_t state, size_t input)
 {
     return c->entries[2 * (state * c->inputs + input) + 1];
+}
+
+size_t side_bound(const coder *c)
+{
+    return c->states * (c->states + 1) / 2;
+}
+
+int another_coder(kept_coder *k, const coder *c)
+{
+    size_t bytes = 2 * c->states * c->inputs;
+
+    if (k->states == c->states && k->inputs == c->inputs && k->outputs == c->outputs
+        && memcmp(k->entries, c->entries, bytes) == 0)
+        return 0;
+    k->states = c->states;
+    k->inputs = c->inputs;
+    k->outputs = c->outputs;
+    memcpy(k->entries, c->entries, bytes);
+    return 1;
 }
 
 size_t follow_run(const coder *c, size_t start, const uint8_t *input, size_t n, uint8_t *output)
@@ -88,8 +109,38 @@ static size_t put_file(const arguments *a, uint8_t *file)
     return 3 + count;
 }
 
+/* The fields of a search for kinds; with "cannot" there is one alone. */
+static void put_kinds_verdict(const kinds_verdict *v, uint8_t *result)
+{
+    put_field(result, 0, v->told ? 0 : 1);
+    if (!v->told)
+        return;
+    put_field(result, 1, v->before);
+    put_field(result, 2, v->after);
+    put_field(result, 3, v->carried);
+}
+
+/* The fields of a window decoded by kinds: a number for a letter or a kind alone. */
+static void put_kinds_answer(const coder *c, const arguments *a, uint8_t *result)
+{
+    size_t number, answer = window_kinds(c, a->kinds, a->before, a->after, a->bytes, &number);
+
+    put_field(result, 0, answer);
+    if (answer == KINDS_LETTER || answer == KINDS_KIND)
+        put_field(result, 1, number);
+}
+
+/* The coder with the settle count of the call; the calls for kinds have none. */
+static coder coder_of_call(const arguments *a)
+{
+    if (a->call == CALL_SEARCH_KINDS || a->call == CALL_WINDOW_KINDS)
+        return coder_of_file(a->file);
+    return settled_coder(a->file, a->settle);
+}
+
 int expected_answer(const arguments *a, uint8_t *lent, uint8_t *result)
 {
+    kinds_verdict v;
     coder c;
     size_t count, k;
     pair p;
@@ -98,7 +149,7 @@ int expected_answer(const arguments *a, uint8_t *lent, uint8_t *result)
         put_field(result, 0, put_file(a, lent));
         return 1;
     }
-    c = settled_coder(a->file, a->settle);
+    c = coder_of_call(a);
     switch (a->call) {
     case CALL_RUN:
         put_field(result, 1, follow_run(&c, a->start, a->bytes, a->bytes_len, lent));
@@ -123,6 +174,13 @@ int expected_answer(const arguments *a, uint8_t *lent, uint8_t *result)
         for (k = 0; k < count; k++)
             lent[k] = table_byte(&c, a->before, a->after, k);
         put_field(result, 0, count);
+        return !steps_used_up();
+    case CALL_SEARCH_KINDS:
+        v = search_kinds(&c, a->kinds);
+        put_kinds_verdict(&v, result);
+        return 1;
+    case CALL_WINDOW_KINDS:
+        put_kinds_answer(&c, a, result);
         return !steps_used_up();
     default:
         return 0;

@@ -45,19 +45,22 @@ typedef struct pair {
 } pair;
 
 enum call {
-    CALL_RUN, CALL_SEARCH, CALL_DECODE, CALL_CHECK, CALL_WINDOW, CALL_TABLE, CALL_WRITE, CALLS
+    CALL_RUN, CALL_SEARCH, CALL_DECODE, CALL_CHECK, CALL_WINDOW, CALL_TABLE, CALL_WRITE,
+    CALL_SEARCH_KINDS, CALL_WINDOW_KINDS, CALLS
 };
 
-/* The arguments of any of the seven calls; a call looks only at those it is given. */
+/* The arguments of any of the nine calls; a call looks only at those it is given. */
 typedef struct arguments {
     enum call call;
     const uint8_t *file;    /* all but write */
     size_t file_len;
     size_t start;           /* run */
-    size_t before, after;   /* decode, window, table */
+    size_t before, after;   /* decode, window, table, window of kinds */
     size_t settle;          /* search, decode, window, table */
     pair pair;              /* check, without its letters */
     size_t counts[3];       /* write: states, inputs, outputs */
+    const uint8_t *kinds;   /* search and window of kinds */
+    size_t kinds_len;
     const uint8_t *bytes;   /* input of the run, letters of the check, received letters, entries */
     size_t bytes_len;
     size_t lent_len;        /* output of run and decode, letters of the search, table, file */
@@ -87,13 +90,25 @@ coder settled_coder(const uint8_t *file, size_t settle);
 size_t next_state(const coder *c, size_t state, size_t input);
 size_t output_letter(const coder *c, size_t state, size_t input);
 
+/* A coder that is kept, without a settle count, to know whether another one comes. */
+typedef struct kept_coder {
+    size_t states, inputs, outputs;
+    uint8_t entries[2 * MOST_STATES * MOST_INPUTS];
+} kept_coder;
+
+/* Whether the coder is another than the one kept; it is kept then. */
+int another_coder(kept_coder *kept, const coder *c);
+
+/* The bound of a side of a window that is reported: N (N + 1) / 2. */
+size_t side_bound(const coder *c);
+
 /* The run from a state: writes n output letters, returns the end state. */
 size_t follow_run(const coder *c, size_t start, const uint8_t *input, size_t n, uint8_t *output);
 
 /* The byte of a table at an index, whose digits to base O are the letters, the first the highest. */
 uint8_t table_byte(const coder *c, size_t before, size_t after, size_t index);
 
-/* What an accepted call other than the search writes, into copies of its lent buffers.
+/* What an accepted call other than the search for letters writes, into copies of its lent buffers.
    Returns 0 where the allowance did not suffice. */
 int expected_answer(const arguments *a, uint8_t *lent, uint8_t *result);
 
@@ -140,8 +155,77 @@ int fails_by_groups(const coder *c, size_t n, size_t most, uint8_t *fails);
 /* Whether the window works, by all pairs of runs around the present letter. */
 enum answer works_by_pairs(const coder *c, size_t before, size_t after);
 
+/* The letters that fit a received window, in the order of their numbers; returns how many. */
+size_t fitting_letters(const coder *c, size_t before, size_t after, const uint8_t *received,
+                       uint8_t letters[MOST_INPUTS]);
+
 /* The byte of a received window: the letter that alone fits, none or several. */
 uint8_t window_byte(const coder *c, size_t before, size_t after, const uint8_t *received);
+
+/* The entries that a run can follow, out of each state or into it: the state at the other end, the
+   output. A run that starts in a reachable state stays in such states. last[s]: whether what is
+   followed may come to its end in s; against the run's direction that is the window's first letter,
+   and s a start state. */
+typedef struct entry_ends {
+    uint8_t last[MOST_STATES];
+    size_t count[MOST_STATES];
+    uint8_t other[MOST_STATES][MOST_STATES * MOST_INPUTS];
+    uint8_t output[MOST_STATES][MOST_STATES * MOST_INPUTS];
+} entry_ends;
+
+void list_entries(const coder *c, entry_ends *out, entry_ends *in);
+
+/* ---- enumerator_apart.c ---- */
+
+/* Pairs of different input letters: bit j of with[i] and bit i of with[j] stand for i and j. */
+typedef struct letter_pairs {
+    uint16_t with[MOST_INPUTS];
+} letter_pairs;
+
+int pairs_meet(const letter_pairs *one, const letter_pairs *other);
+
+/* Document 02, 8/13: a window with settle count 0 tells letters apart if no two runs with equal
+   outputs have one and the other in the present place.
+
+   All runs of a window of n letters grouped by output string: confused[b] becomes the pairs that
+   the window with b letters before the present one does not tell apart. Returns 0, with nothing
+   said, where there are too many runs. */
+enum { MOST_GROUPED = 24 };
+int confused_by_groups(const coder *c, size_t n, letter_pairs confused[MOST_GROUPED]);
+
+/* Whether the window tells all of these pairs apart, by following pairs of runs; no side above the
+   bound. */
+int tells_by_following(const coder *c, const letter_pairs *pairs, size_t before, size_t after);
+
+/* The same by all runs where there are not too many of them, else by pairs of runs. */
+int window_tells(const coder *c, const letter_pairs *pairs, size_t before, size_t after);
+
+/* The pairs that no window of any size tells apart. */
+const letter_pairs *never_apart(const coder *c);
+
+/* ---- enumerator_kinds.c ---- */
+
+/* The pairs of letters of different kinds, and of letters of one kind where that is in a set; bit k
+   of the set stands for kind k. */
+letter_pairs pairs_of_kinds(const coder *c, const uint8_t *kinds, size_t carried);
+
+/* The pairs of letters of this kind alone. */
+letter_pairs pairs_within(const coder *c, const uint8_t *kinds, size_t kind);
+
+/* What the search for kinds gives: whether kinds can be told; the carried kinds and the first window
+   in the order of least lookahead. */
+typedef struct kinds_verdict {
+    int told;
+    size_t before, after, carried;
+} kinds_verdict;
+
+kinds_verdict search_kinds(const coder *c, const uint8_t *kinds);
+
+/* What a received window gives: 0 a letter, 1 a kind, 2 none, 3 several; for the first two *number
+   becomes the letter or the kind. */
+enum { KINDS_LETTER, KINDS_KIND, KINDS_NONE, KINDS_SEVERAL, KINDS_ANSWERS };
+size_t window_kinds(const coder *c, const uint8_t *kinds, size_t before, size_t after,
+                    const uint8_t *received, size_t *number);
 
 /* ---- enumerator_pairs.c ---- */
 

@@ -86,6 +86,12 @@ static int settle_too_large(const arguments *a)
     return a->settle > MOST_SETTLE;
 }
 
+/* Document 02, 8/13: a list that has not a kind for each letter, or has one that is not below I. */
+static int kinds_wrong(const arguments *a, const coder *c)
+{
+    return a->kinds_len != c->inputs || some_letter_from(a->kinds, a->kinds_len, c->inputs);
+}
+
 /* Whether the bytes are twice the letters of the pair, without adding what could wrap. */
 static int pair_bytes_match(const arguments *a)
 {
@@ -225,6 +231,30 @@ static size_t refusal_of_table(const arguments *a, const coder *c)
     return 0;
 }
 
+static size_t refusal_of_search_kinds(const arguments *a, const coder *c)
+{
+    if (kinds_wrong(a, c))
+        return 16;
+    if (a->result_len < RESULT_BYTES)
+        return 11;
+    return 0;
+}
+
+static size_t refusal_of_window_kinds(const arguments *a, const coder *c)
+{
+    if (kinds_wrong(a, c))
+        return 16;
+    if (sides_too_large(a))
+        return 8;
+    if (a->bytes_len != a->before + 1 + a->after)
+        return 9;
+    if (a->result_len < RESULT_BYTES)
+        return 11;
+    if (some_letter_from(a->bytes, a->bytes_len, c->outputs))
+        return 13;
+    return 0;
+}
+
 /* Document 02, 3/13 and 7/13: 4, 5 of the number of entry bytes, 6, 15, 11. */
 static size_t refusal_of_write(const arguments *a)
 {
@@ -265,6 +295,10 @@ size_t refusal_of_call(const arguments *a)
         return refusal_of_check(a, &c);
     case CALL_WINDOW:
         return refusal_of_window(a, &c);
+    case CALL_SEARCH_KINDS:
+        return refusal_of_search_kinds(a, &c);
+    case CALL_WINDOW_KINDS:
+        return refusal_of_window_kinds(a, &c);
     default:
         return refusal_of_table(a, &c);
     }

@@ -141,18 +141,7 @@ static int first_time(tried *d, size_t s, size_t t)
     return 1;
 }
 
-/* The entries that a run can follow, out of each state or into it: the state at the other end, the
-   output. A run that starts in a reachable state stays in such states. last[s]: whether what is
-   followed may come to its end in s; against the run's direction that is the window's first letter,
-   and s a start state. */
-typedef struct ends {
-    uint8_t last[MOST_STATES];
-    size_t count[MOST_STATES];
-    uint8_t other[MOST_STATES][MOST_STATES * MOST_INPUTS];
-    uint8_t output[MOST_STATES][MOST_STATES * MOST_INPUTS];
-} ends;
-
-static void add_entry(ends *e, size_t state, size_t other, size_t output)
+static void add_entry(entry_ends *e, size_t state, size_t other, size_t output)
 {
     size_t k = e->count[state]++;
 
@@ -160,7 +149,7 @@ static void add_entry(ends *e, size_t state, size_t other, size_t output)
     e->output[state][k] = (uint8_t)output;
 }
 
-static void list_entries(const coder *c, ends *out, ends *in)
+void list_entries(const coder *c, entry_ends *out, entry_ends *in)
 {
     size_t k, i;
 
@@ -179,7 +168,7 @@ static void list_entries(const coder *c, ends *out, ends *in)
 }
 
 /* Whether two runs of n letters out of these states, or into them, have equal outputs. */
-static int two_runs(const ends *e, size_t s, size_t t, size_t n)
+static int two_runs(const entry_ends *e, size_t s, size_t t, size_t n)
 {
     tried done = {{0}};
     size_t i, j;
@@ -199,8 +188,8 @@ static int two_runs(const ends *e, size_t s, size_t t, size_t n)
 
 /* Whether two runs have equal outputs that read these letters in these states at the present
    place. */
-static int runs_around(const coder *c, const ends *out, const ends *in, size_t before, size_t after,
-                       const size_t from[2], const size_t by[2])
+static int runs_around(const coder *c, const entry_ends *out, const entry_ends *in, size_t before,
+                       size_t after, const size_t from[2], const size_t by[2])
 {
     return output_letter(c, from[0], by[0]) == output_letter(c, from[1], by[1])
         && two_runs(out, next_state(c, from[0], by[0]), next_state(c, from[1], by[1]), after)
@@ -212,7 +201,7 @@ static int runs_around(const coder *c, const ends *out, const ends *in, size_t b
    matter, so the first has the smaller letter. */
 enum answer works_by_pairs(const coder *c, size_t before, size_t after)
 {
-    static ends out, in;
+    static entry_ends out, in;
     const state_list *of = &c->reachable;
     size_t from[2], by[2], k;
 
@@ -277,16 +266,23 @@ static enum answer letter_fits(const coder *c, size_t before, size_t after, cons
     return steps_used_up() ? UNKNOWN : NO;
 }
 
-uint8_t window_byte(const coder *c, size_t before, size_t after, const uint8_t *received)
+size_t fitting_letters(const coder *c, size_t before, size_t after, const uint8_t *received,
+                       uint8_t letters[MOST_INPUTS])
 {
-    size_t fitting = 0, found = 0, x;
+    size_t fitting = 0, x;
 
     for (x = 0; x < c->inputs; x++)
-        if (letter_fits(c, before, after, received, x) == YES) {
-            fitting++;
-            found = x;
-        }
+        if (letter_fits(c, before, after, received, x) == YES)
+            letters[fitting++] = (uint8_t)x;
+    return fitting;
+}
+
+uint8_t window_byte(const coder *c, size_t before, size_t after, const uint8_t *received)
+{
+    uint8_t letters[MOST_INPUTS];
+    size_t fitting = fitting_letters(c, before, after, received, letters);
+
     if (fitting == 0)
         return 254;
-    return fitting == 1 ? (uint8_t)found : 255;
+    return fitting == 1 ? letters[0] : 255;
 }

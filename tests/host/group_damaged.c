@@ -140,7 +140,20 @@ static void damage_given_count(arguments *a, size_t k)
     }
 }
 
-/* A number of the call: a start state, a side, a settle count, a length, a count. */
+/* A kind too high, or a list that has not a kind for each letter. */
+static void damage_kinds(arguments *a)
+{
+    size_t k = 1 + random_below(3);
+
+    if (random_below(2) && a->kinds_len > 0)
+        kinds_room[random_below(a->kinds_len)] = byte_from(file_room[4]);
+    else if (random_below(2) && a->kinds_len >= k)
+        a->kinds_len -= k;
+    else
+        a->kinds_len += k;
+}
+
+/* A number of the call: a start state, a side, a settle count, a length, a count; or its kinds. */
 static void damage_number(arguments *a)
 {
     size_t *const lengths[4] = {&a->pair.back_loop, &a->pair.lead_in, &a->pair.lead_out,
@@ -158,6 +171,9 @@ static void damage_number(arguments *a)
         else
             *lengths[k] = random_below(2) ? number_from(256)
                                           : *lengths[k] + 1 - 2 * random_below(2);
+    } else if (a->call == CALL_SEARCH_KINDS
+               || (a->call == CALL_WINDOW_KINDS && random_below(2))) {
+        damage_kinds(a);
     } else if (a->call == CALL_SEARCH || random_below(3) == 0) {
         a->settle = number_from(MOST_SETTLE + 1);
     } else {
@@ -220,10 +236,11 @@ static void damage(arguments *a)
 static void check_reach(void)
 {
     static const char *const reach[CALLS] = {
-        [CALL_RUN]    = "1111111100011001", [CALL_SEARCH] = "1111111000010011",
-        [CALL_DECODE] = "1111111010010111", [CALL_CHECK]  = "1111111101011001",
-        [CALL_WINDOW] = "1111111011010111", [CALL_TABLE]  = "1111111010110011",
-        [CALL_WRITE]  = "1000111000010001"
+        [CALL_RUN]    = "11111111000110010", [CALL_SEARCH] = "11111110000100110",
+        [CALL_DECODE] = "11111110100101110", [CALL_CHECK]  = "11111111010110010",
+        [CALL_WINDOW] = "11111110110101110", [CALL_TABLE]  = "11111110101100110",
+        [CALL_WRITE]  = "10001110000100010",
+        [CALL_SEARCH_KINDS] = "11111110000100011", [CALL_WINDOW_KINDS] = "11111110110101011"
     };
     int call, k;
 

@@ -1,5 +1,6 @@
 /* Arguments at the edges of what is refused: counts, sides, lengths, buffers and files. */
 #include "calls.h"
+#include "case_texts.h"
 #include "groups.h"
 
 #include <string.h>
@@ -34,6 +35,7 @@ static void edge_counts(size_t states, size_t inputs, size_t outputs, size_t num
         a = plain((enum call)call, &none);
         a.file = file_room;
         a.file_len = count + 3;
+        a.kinds_len = inputs;
         a.pair.back_loop = a.pair.forward_loop = 1;
         a.counts[0] = states;
         a.counts[1] = inputs;
@@ -91,6 +93,141 @@ static void edge_lengths(const coder_file *f)
             known_refusal(&a, 9);
     }
 }
+
+/* ---- kinds ---- */
+
+/* From C, and in a case by the library's own call, which has no result buffer. */
+static void both(const arguments *a, size_t number)
+{
+    known_refusal(a, number);
+    text_kinds(a);
+}
+
+/* The call with the kinds given is accepted or, for the other faults that it has, refused with this
+   number. With a list that has fewer or more bytes, or a kind of I or 255 at any place, it is 16. */
+static void edge_kinds_of(arguments a, size_t number)
+{
+    size_t inputs = a.kinds_len, k;
+
+    both(&a, number);
+    for (a.kinds_len = 0; a.kinds_len < inputs + 3; a.kinds_len++)
+        both(&a, a.kinds_len == inputs ? number : 16);
+    a.kinds_len = 256 + inputs;
+    both(&a, 16);
+    a.kinds_len = inputs;
+    for (k = 0; k < inputs; k++) {
+        uint8_t kept = kinds_room[k];
+
+        kinds_room[k] = (uint8_t)(inputs - 1);
+        both(&a, number);
+        kinds_room[k] = (uint8_t)inputs;
+        both(&a, 16);
+        kinds_room[k] = 255;
+        both(&a, 16);
+        kinds_room[k] = kept;
+    }
+}
+
+/* A window of 3 letters before and 1 after; its received letters are 0 but for one, which is the last
+   that there is. All kinds are there, the highest first. */
+static arguments plain_kinds(enum call call, const coder_file *f)
+{
+    arguments a = plain(call, f);
+    size_t k;
+
+    for (k = 0; k < a.kinds_len; k++)
+        kinds_room[k] = (uint8_t)(a.kinds_len - 1 - k);
+    if (call == CALL_SEARCH_KINDS)
+        return a;
+    memset(letters_room, 0, MOST_WINDOW + 2);
+    letters_room[4] = (uint8_t)(f->bytes[5] - 1);
+    a.before = 3;
+    a.after = 1;
+    a.bytes_len = 5;
+    return a;
+}
+
+/* The numbers after 16 of a window, each with those that come after it: 8, 9, 11, 13. With each of
+   them a fault of the kinds gives 16. No settle count is given: one of 65 among the arguments here
+   changes nothing. */
+static void edge_window_kinds(const coder_file *f)
+{
+    arguments a = plain_kinds(CALL_WINDOW_KINDS, f);
+
+    a.settle = MOST_SETTLE + 1;
+    both(&a, 0);
+    letters_room[4] = f->bytes[5];
+    edge_kinds_of(a, 13);
+    letters_room[0] = 255;
+    both(&a, 13);
+    a.result_len = RESULT_BYTES - 1;
+    edge_kinds_of(a, 11);
+    a.bytes_len = 4;
+    edge_kinds_of(a, 9);
+    a.bytes_len = 6;
+    edge_kinds_of(a, 9);
+    a.after = MOST_SIDE + 1;
+    edge_kinds_of(a, 8);
+    a.after = 1;
+    a.before = SIZE_MAX;
+    edge_kinds_of(a, 8);
+}
+
+/* Both sides up to 136; the number of letters one less and one more; a result of 63 bytes. */
+static void edge_sides_of_kinds(const coder_file *f)
+{
+    static const size_t sides[6][3] = {{MOST_SIDE, 0, 0}, {0, MOST_SIDE, 0},
+                                       {MOST_SIDE, MOST_SIDE, 0}, {MOST_SIDE + 1, 0, 8},
+                                       {0, MOST_SIDE + 1, 8}, {SIZE_MAX, 1, 8}};
+    arguments a = plain_kinds(CALL_WINDOW_KINDS, f);
+    size_t k;
+
+    for (k = 0; k < 6; k++) {
+        a.before = sides[k][0];
+        a.after = sides[k][1];
+        a.bytes_len = a.before + 1 + a.after;
+        both(&a, sides[k][2]);
+        a.bytes_len = a.bytes_len < 2 ? 0 : a.bytes_len - 1;
+        both(&a, sides[k][2] ? 8 : 9);
+        a.bytes_len += 2;
+        both(&a, sides[k][2] ? 8 : 9);
+    }
+}
+
+static void in_place_of_16(const arguments *a, size_t number)
+{
+    known_refusal(a, number);
+    text_file(a->file, a->file_len);
+    text_kinds(a);
+}
+
+/* A file with a fault comes before 16; 16 comes before a result too short. */
+static void edge_kinds(const coder_file *f)
+{
+    arguments a;
+    int call;
+
+    for (call = CALL_SEARCH_KINDS; call <= CALL_WINDOW_KINDS; call++) {
+        text_file(f->bytes, f->len);
+        a = plain_kinds((enum call)call, f);
+        edge_kinds_of(a, 0);
+        for (a.result_len = 0; a.result_len < RESULT_BYTES; a.result_len++)
+            known_refusal(&a, 11);
+        known_refusal(&a, 0);
+        a.result_len = RESULT_BYTES - 1;
+        edge_kinds_of(a, 11);
+        kinds_room[0] = 255;
+        with_file_faults(&a, f, FILE_FAULTS, in_place_of_16);
+        a = plain_kinds((enum call)call, f);
+        a.kinds_len = 0;
+        with_file_faults(&a, f, FILE_FAULTS, in_place_of_16);
+    }
+    text_file(f->bytes, f->len);
+    edge_window_kinds(f);
+    edge_sides_of_kinds(f);
+}
+
+/* ---- buffers and files ---- */
 
 static void edge_buffers(const coder_file *f)
 {
@@ -151,6 +288,7 @@ void group_edges(void)
         edge_sides(&e.file);
         edge_lengths(&e.file);
         edge_buffers(&e.file);
+        edge_kinds(&e.file);
         edge_files(&e.file);
     }
     end_group();

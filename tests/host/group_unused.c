@@ -297,8 +297,13 @@ static void beside_numbers(enum call call, const coder_file *f)
     if (call == CALL_RUN || call == CALL_CHECK)
         beside(&b, 7, 0);
     b = a;
+    b.kinds_len--;
+    if (call == CALL_SEARCH_KINDS || call == CALL_WINDOW_KINDS)
+        beside(&b, 16, 0);
+    b = a;
     b.before = MOST_SIDE + 1;
-    if (call == CALL_DECODE || call == CALL_WINDOW || call == CALL_TABLE)
+    if (call == CALL_DECODE || call == CALL_WINDOW || call == CALL_TABLE
+        || call == CALL_WINDOW_KINDS)
         beside(&b, 8, 0);
     b = a;
     b.settle = MOST_SETTLE + 1;
@@ -306,7 +311,7 @@ static void beside_numbers(enum call call, const coder_file *f)
         beside(&b, 14, 0);
     b = a;
     b.bytes_len++;
-    if (call == CALL_CHECK || call == CALL_WINDOW)
+    if (call == CALL_CHECK || call == CALL_WINDOW || call == CALL_WINDOW_KINDS)
         beside(&b, 9, 0);
     b = a;
     b.before = MOST_SIDE;
@@ -323,7 +328,7 @@ static void beside_buffers_and_letters(enum call call, const coder_file *f)
         beside(&a, 12, 0);
         letters_room[0] = 0;
     }
-    if (call == CALL_DECODE || call == CALL_WINDOW) {
+    if (call == CALL_DECODE || call == CALL_WINDOW || call == CALL_WINDOW_KINDS) {
         letters_room[0] = 255;
         beside(&a, 13, 0);
         letters_room[0] = 0;
@@ -332,7 +337,8 @@ static void beside_buffers_and_letters(enum call call, const coder_file *f)
     beside(&a, 11, 0);
     a.result_len = RESULT_BYTES;
     a.lent_len = 0;
-    if (call != CALL_CHECK && call != CALL_WINDOW)
+    if (call != CALL_CHECK && call != CALL_WINDOW && call != CALL_SEARCH_KINDS
+        && call != CALL_WINDOW_KINDS)
         beside(&a, 11, 0);
 }
 

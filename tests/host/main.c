@@ -1,4 +1,4 @@
-/* The comparison of the library with the enumerator: all seven calls, every byte of every buffer.
+/* The comparison of the library with the enumerator: all nine calls, every byte of every buffer.
    One line for each group of comparisons; the last line counts the groups. Argument: the folder for
    the texts of cases.
 
@@ -10,12 +10,14 @@
    and the coders with ties, the first pair; for the lines of the settle counts, the windows before;
    for the other groups nothing. That is for settle count 0. Of the second searches, with a larger
    settle count, those of the small random coders try all of it, and those of the other small coders
-   and of the large random ones the windows before.
+   and of the large random ones the windows before. Of a search for kinds the enumerator tries every
+   window that comes before the one wanted, in every group.
 
    Cases in named orders (named_orders.c) are written for the examples, padded ones too, all small
    coders, the small random ones, the chains, the changed chains of up to 6 states, and the lines of
    the settle counts; cases of the reader and of the writer for the examples and for random coders
-   (group_writer.c), and for files with output letters that no entry names (group_unused.c). */
+   (group_writer.c), and for files with output letters that no entry names (group_unused.c); cases of
+   the calls for kinds at the edges, for small coders and for random ones (group_kinds.c). */
 #include "case_texts.h"
 #include "coders.h"
 #include "compare.h"
@@ -49,6 +51,8 @@ int main(int count, char **words)
     group_arguments(CALL_WINDOW, "single windows with random arguments", 20000);
     group_arguments(CALL_TABLE, "tables with random arguments", 5000);
     group_arguments(CALL_WRITE, "files written with random arguments", 10000);
+    group_arguments(CALL_SEARCH_KINDS, "searches for kinds with random arguments", 10000);
+    group_arguments(CALL_WINDOW_KINDS, "windows of kinds with random arguments", 20000);
     group_damaged("damaged arguments, one fault", 1, 150000);
     group_damaged("damaged arguments, two faults", 2, 150000);
     group_damaged("damaged arguments, three faults", 3, 50000);
@@ -59,6 +63,7 @@ int main(int count, char **words)
     group_settle_limit();
     group_settle();
     group_unused();
+    group_kinds();
     group_orders();
     return end_groups();
 }

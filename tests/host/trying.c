@@ -21,25 +21,6 @@ static uint8_t marks[MOST_WINDOW + 1][MOST_WINDOW];
 static uint8_t tried[MOST_WINDOW + 1][MOST_WINDOW];
 static enum answer answers[MOST_WINDOW + 1][MOST_WINDOW];
 
-size_t side_bound(const coder *c)
-{
-    return c->states * (c->states + 1) / 2;
-}
-
-int another_coder(kept_coder *k, const coder *c)
-{
-    size_t bytes = 2 * c->states * c->inputs;
-
-    if (k->states == c->states && k->inputs == c->inputs && k->outputs == c->outputs
-        && memcmp(k->entries, c->entries, bytes) == 0)
-        return 0;
-    k->states = c->states;
-    k->inputs = c->inputs;
-    k->outputs = c->outputs;
-    memcpy(k->entries, c->entries, bytes);
-    return 1;
-}
-
 static void forget_windows(void)
 {
     memset(ways, 0, sizeof ways);
