@@ -5,12 +5,12 @@
 #:   help                 this list
 #:   report               the program target/bin/report, run on an example: 1 to 2 minutes from nothing, else seconds
 #:   lib                  the static library for a host in C, with include/lowhenita.h: the same
-#:   examples             the library and the example hosts, run on an example: the same
+#:   examples             the library and the example hosts, run on examples: the same
 #:   install              library, header, program, manual page and pkg-config file below PREFIX, /usr/local if none is given: the same
 #:   uninstall            removes these files; nothing is built for it
 #:   check                proves every crate and runs every test, but tries no must-fail edit: 5 minutes from nothing, else about 2
 #:   test                 the gate: removes target/, proves every crate, tries every must-fail edit, runs every test: about 18 minutes
-#:   bench                the library and its times beside plain C: 15 seconds more than lib
+#:   bench                the library and its times beside plain C: 25 seconds more than lib
 #:   target/lowhenita.pc  the pkg-config file; nothing is built for it
 #:   clean                removes target/: all that is built, and what is known of proved crates
 PREFIX = /usr/local
@@ -59,17 +59,18 @@ $(LIBRARY): $(SOURCES)
 examples: $(LIBRARY)
 	@for c in 'gcc -std=c99' 'clang -std=c99' 'g++ -x c++' 'clang++ -x c++'; do \
 	  if command -v $${c%% *} > /dev/null; then \
-	    for host in decode write; do \
+	    for host in decode kinds write; do \
 	      echo "$$c -Wall -Wextra -Werror examples/$$host.c"; \
 	      $$c -Wall -Wextra -Werror -O2 -Iinclude -c examples/$$host.c -o target/$$host.o || exit 1; \
 	    done; \
 	  fi; \
 	done
-	for host in decode write; do \
+	for host in decode kinds write; do \
 	  $(CC) -std=c99 -Wall -Wextra -Werror -O2 -Iinclude examples/$$host.c $(LIBRARY) -o target/$$host || exit 1; \
 	done
 	target/write 2 2 2 0/0 1/1 1/1 0/0 | cmp - examples/A.coder
 	target/decode examples/A.coder 1 1 0 1
+	target/kinds examples/fillers.coder 0,0,1,1 0 2 1 3 3 1
 
 # Written anew each time: PREFIX may have changed.
 $(PC_FILE):

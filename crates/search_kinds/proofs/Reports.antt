@@ -119,7 +119,8 @@ module _ {c : Coder} {f : List ℕ} (e : c ≡ coderOf f) (a : Accepted f) {star
   started-closed = started .closed
 
   pub says-same :
-      (kinds : List ℕ) (v : KindsVerdict) → KindsSays (relationOf defaultOrder) (startedIn c starts) (kindOf kinds) v → KindsSaysOf f kinds v
+      (kinds : List ℕ) (v : KindsVerdict) → KindsSays (relationOf defaultOrder) (startedIn c starts) (kindOf kinds) v →
+      KindsSaysOf f kinds v
   says-same kinds v r =
       subst (λ (M : Machine). KindsSays (relationOf defaultOrder) (afterLetters M 0) (kindOf kinds) v) (coder-machine e a)
       (reports-same (relationOf defaultOrder) started refl (kindOf kinds) v r)

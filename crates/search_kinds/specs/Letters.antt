@@ -14,7 +14,7 @@ OfKind kind κ j = (j < maxInputs) × (kind j ≡ κ)
 abbrev pub SameKind : (ℕ → ℕ) → (ℕ → Type 0) → ℕ → ℕ → Type 0
 SameKind kind C i j = (kind i ≡ kind j) × C (kind i) × (i ≢ j)
 
--- Different letters of one kind in C and, where `across`, letters of different kinds. With `across` it is `DifferentCarried kind C`; without
--- it, where C has the kind κ alone, `DifferentWithin kind κ` (`apart-carried`, `apart-within` of proofs/Apart.antt).
+-- Different letters of one kind in C and, where `across`, letters of different kinds. With `across` it is `DifferentCarried kind C`;
+-- without it, where C has the kind κ alone, `DifferentWithin kind κ` (`apart-carried`, `apart-within` of proofs/Apart.antt).
 abbrev pub ToldApart : Bool → (ℕ → ℕ) → (ℕ → Type 0) → ℕ → ℕ → Type 0
 ToldApart across kind C i j = SameKind kind C i j ⊎ ((across ≡ true) × DifferentKinds kind i j)

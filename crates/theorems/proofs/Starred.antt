@@ -74,7 +74,8 @@ use Rattle.checker.specs.Check.{checkRefusal, CheckedRight}
 use Rattle.checker.proofs.Determined.{checked-as}
 use Rattle.theorems.specs.Starred as claimed
 use Rattle.theorems.specs.Starred.{Claim, Case, Holds, AllHold, AllCases, starred}
-use Rattle.theorems.proofs.Tests.{sameList, same-list, allStarts, allWords, agree, worksTest, laterOrFails, leastTest, least-letters, apart}
+use Rattle.theorems.proofs.Tests.{sameList, same-list, allStarts, allWords, apart, agree, worksTest, laterOrFails}
+use Rattle.theorems.proofs.Tests.{leastTest, least-letters}
 use Rattle.theorems.proofs.Tests.{closesTest, validTest, test-valid, noEarlier, firstTest, first-size, first-test, differentTest}
 use Rattle.theorems.proofs.Tests.{different-test}
 

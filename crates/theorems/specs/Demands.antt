@@ -1,12 +1,12 @@
 -- The three demands, one record each, over the promises of the calls alone. A buyer begins here: `demand-1`, `demand-2`, `demand-3` and
 -- `from-c` of proofs/Demands.antt prove these records, and each call's contract is that it meets its promise for all arguments. In the
 -- crate published stand the published list of refusals (Published.antt) and that an accepted coder names its whole alphabet
--- (Alphabet.antt). Beside this file: reader and writer of coder files as inverses (Files.antt), refusal 10 by cases on O
--- (TableLimit.antt), spare states (SpareStates.antt), what a settle count changes (SettleCounts.antt), that the checker accepts what the
--- search gives (SearchChecked.antt), that a table shows whether its window works (TableShows.antt), that no promise is empty
--- (Exists.antt), the starred cases (Starred.antt). The crate theorems_kinds has what is said of kinds of letter. The runs that pairs go by start in reachable states (document 02, 5/13): `settingOf`.
--- Those of windows and answers start where as many letters as the settle count says lead from there (6/13): `settingAfter`, and of the
--- decoder's calls `windowSetting`.
+-- (Alphabet.antt). Beside this file: reader and writer of coder files as inverses (Files.antt), refusal 10 by cases on O (TableLimit.antt),
+-- spare states (SpareStates.antt), what a settle count changes (SettleCounts.antt), that the checker accepts what the search gives
+-- (SearchChecked.antt), that a table shows whether its window works (TableShows.antt), that no promise is empty (Exists.antt), the starred
+-- cases (Starred.antt). The crate theorems_kinds has what is said of kinds of letter. The runs that pairs go by start in reachable states
+-- (document 02, 5/13): `settingOf`. Those of windows and answers start where as many letters as the settle count says lead from there
+-- (6/13): `settingAfter`, and of the decoder's calls `windowSetting`.
 use Prim.Native.Nat.{ℕ, _+_, _≤_, _<_}
 use mathlib.Core.Path.{_≡_}
 use mathlib.Core.Bool.{Bool, true}
@@ -183,8 +183,8 @@ pub record Demand2 : Type 0 where
   pub window-from-C :
       (f : List ℕ) (w : Window) (received result result′ : List ℕ) → WindowFromHost f w received result 0 result′ →
       SaidByte (windowSetting f w) received (w .before) (fieldAt result′ 0)
-  -- third sentence, for runs from a reachable state (document 02, 5/13), at the places that have the letters of the settle count ahead of the
-  -- window (6/13)
+  -- third sentence, for runs from a reachable state (document 02, 5/13), at the places that have the letters of the settle count ahead of
+  -- the window (6/13)
   pub back : LettersComeBack
   pub back-from-C : LettersComeBackFromC
 
@@ -197,7 +197,8 @@ abbrev pub NoLater : Order → Window → ℕ → ℕ → Type 0
 NoLater FewestLetters w b a = (size w ≤ b + 1 + a) × (size w ≡ b + 1 + a → w .after ≤ a)
 NoLater LeastLookahead w b a = (w .after ≤ a) × (w .after ≡ a → w .before ≤ b)
 
--- What is demanded of the verdict of a search in the order o with settle count p on a file, the letters of a looped pair lying in the buffer.
+-- What is demanded of the verdict of a search in the order o with settle count p on a file, the letters of a looped pair lying in the
+-- buffer.
 pub record Demanded (o : Order) (f : List ℕ) (p : ℕ) (v : Verdict) (buffer : List ℕ) : Type 0 where
   -- first sentence
   pub exactly : IsNoDecoder v ↔ ((b a : ℕ) → Works (settingAfter f p) b a → ⊥)

@@ -1,5 +1,5 @@
 -- The calls for kinds from C: what a host reads from the fields of a report and of an answer, and what a coded string yields it.
-use mathlib.Core.Path.{_≡_, sym, ap, _∙_}
+use mathlib.Core.Path.{_≡_, refl, sym, ap, _∙_}
 use mathlib.Core.Bool.{true}
 use mathlib.Core.List.{List, [], _∷_}
 use mathlib.Core.Logic.{inl, inr}
@@ -7,9 +7,11 @@ use Prim.Native.Nat.{ℕ, zero, suc, _+_, _≤_, _<_}
 use native.Mathlib.Omega.{arith}
 use lib.Dec.{lit<}
 use lib.ListN.{length, getD, take, drop}
+use Rattle.mealy.specs.Answer.{Fits}
 use Rattle.mealy.specs.Word.{Has}
 use Rattle.mealy.proofs.Letters.{letter-at}
 use Rattle.coder.specs.Refusal.{upon}
+use Rattle.coder.specs.File.{inputsOf, settingAfter}
 use Rattle.coder.proofs.Accepted.{accepted}
 use Rattle.running.specs.Run.{RunWith}
 use Rattle.running_host.specs.Laid.{laidRun}
@@ -19,8 +21,9 @@ use Rattle.layout.specs.Layout.{withFields, fieldAt}
 use Rattle.layout.specs.Host.{LaidOut}
 use Rattle.layout.proofs.Reading.{field-at}
 use Rattle.layout.proofs.Hosting.{from-host, answered-host}
-use Rattle.kinds.specs.KindsAnswer.{Yields}
+use Rattle.kinds.specs.KindsAnswer.{KindsAnswers, Yields}
 use Rattle.kind_list.specs.KindList.{kindOf}
+use Rattle.kind_list.proofs.KindLists.{ListAccepted}
 use Rattle.search_kinds.specs.Search.{searchKindsRefusal, FoundKinds, SearchKindsWith, SearchKindsPromise}
 use Rattle.search_kinds.specs.declared.KindsVerdict.{KindsVerdict}
 use Rattle.search_kinds.specs.declared.KindsVerdict.the-variants.{Cannot, Told}
@@ -28,17 +31,19 @@ use Rattle.search_kinds.specs.declared.KindsResult.{KindsResult}
 use Rattle.search_kinds.specs.declared.KindsResult.the-variants.{Refused, Found}
 use Rattle.search_kinds.proofs.Reports.{report-says}
 use Rattle.window_kinds.specs.Answer.{meaning}
-use Rattle.window_kinds.specs.Window.{WindowKindsWith}
+use Rattle.window_kinds.specs.Window.{windowKindsRefusal, AnsweredKinds, WindowKindsWith}
 use Rattle.window_kinds.specs.declared.KindsAnswer.{KindsAnswer}
 use Rattle.window_kinds.specs.declared.KindsAnswer.the-variants.{Letter, Kind, None, Several}
-use Rattle.kinds_host.specs.Laid.{kindsFields, laidKinds, laidAnswer, SearchKindsFromHost}
+use Rattle.kinds_host.specs.Laid.{kindsFields, laidKinds, laidAnswer, SearchKindsFromHost, WindowKindsFromHost}
 use Rattle.window_kinds.specs.declared.WindowKindsResult.{WindowKindsResult}
+use Rattle.window_kinds.specs.declared.WindowKindsResult.the-variants as decode
 use Rattle.window_kinds.specs.declared.WindowKindsResult.the-variants.{Answered}
-use Rattle.kinds_host.proofs.Hosting.{search-kinds-others}
+use Rattle.window_kinds.proofs.Accepting.{window-kinds-accepted}
+use Rattle.kinds_host.proofs.Hosting.{search-kinds-others, window-kinds-others}
 use Rattle.theorems.proofs.RoundTrip.{not-refused}
 use Rattle.theorems.proofs.HostReads.{first-read, second-read}
-use Rattle.theorems_kinds.specs.Kinds.{HostYields, StringsYieldFromC, Kinds}
-use Rattle.theorems_kinds.proofs.Strings.{sides-high, strings-yield}
+use Rattle.theorems_kinds.specs.Kinds.{HostYields, StringsYieldFromC, ReadAs, AnswerRead, Kinds}
+use Rattle.theorems_kinds.proofs.Strings.{inputs-are, sides-high, strings-yield}
 use Rattle.theorems_kinds.proofs.Told.{reported}
 
 -- ---- a search that returned 0
@@ -98,23 +103,76 @@ told-read f kinds result result′ r e =
 
 -- ---- an answer, as the host reads it
 
-answer-read :
-    (kinds : List ℕ) (carried x : ℕ) → x < 16 → kindOf kinds x < 16 → (v : KindsAnswer) →
-    Yields (kindOf kinds) (Has carried) x (meaning v) → (own : WindowKindsResult) → own ≡ Answered v →
-    (result : List ℕ) {r : ℕ} {result′ : List ℕ} → LaidOut (laidAnswer own) result r result′ → HostYields kinds carried x r result′
-answer-read kinds carried x low kind-low (Letter y) p own e result out =
+-- the letter or the kind of an answer
+abbrev numberOf : KindsAnswer → ℕ
+numberOf (Letter x) = x
+numberOf (Kind κ) = κ
+numberOf None = 0
+numberOf Several = 0
+
+-- 0 is returned for it, and the fields say it
+read-out :
+    (v : KindsAnswer) → numberOf v < 16 → (own : WindowKindsResult) → own ≡ Answered v → (result : List ℕ) {r : ℕ} {result′ : List ℕ} →
+    LaidOut (laidAnswer own) result r result′ → (r ≡ 0) × ReadAs (meaning v) result′
+read-out (Letter x) small own e result out =
     let d = ap laidAnswer e in
-    let f = first-read result (laidAnswer own) 0 (y ∷ []) d (lit< tt) out in
-    let s = second-read result (laidAnswer own) 0 y [] d (omega arith) out in
-    record { done = f .0; read = inl (f .1, s ∙ p) }
-answer-read kinds carried x low kind-low (Kind κ) p own e result out =
+    let f = first-read result (laidAnswer own) 0 (x ∷ []) d (lit< tt) out in
+    (f .0, (f .1, second-read result (laidAnswer own) 0 x [] d (omega arith) out))
+read-out (Kind κ) small own e result out =
     let d = ap laidAnswer e in
     let f = first-read result (laidAnswer own) 1 (κ ∷ []) d (lit< tt) out in
-    let small = p .0 in
-    let s = second-read result (laidAnswer own) 1 κ [] d (omega arith) out in
-    record { done = f .0; read = inr (f .1, s ∙ p .0, p .1) }
-answer-read kinds carried x low kind-low None p own e result out = absurd p
-answer-read kinds carried x low kind-low Several p own e result out = absurd p
+    (f .0, (f .1, second-read result (laidAnswer own) 1 κ [] d (omega arith) out))
+read-out None small own e result out = first-read result (laidAnswer own) 2 [] (ap laidAnswer e) (lit< tt) out
+read-out Several small own e result out = first-read result (laidAnswer own) 3 [] (ap laidAnswer e) (lit< tt) out
+
+-- letters that fit, and their kinds, are numbers below 16
+right-low :
+    (f kinds : List ℕ) → ListAccepted f kinds → (received : List ℕ) (b : ℕ) (v : KindsAnswer) →
+    KindsAnswers (settingAfter f 0) (kindOf kinds) received b (meaning v) → numberOf v < 16
+right-low f kinds list received b (Letter x) p =
+    let high = accepted f (list .file) .entries .limits .inputs-high in
+    let h = p .fits in
+    let l : x < inputsOf f = rw (inputs-are f, h .letter) at (letter-at _ (h .xs) (h .letters) b (h .inside)) in
+    omega arith
+right-low f kinds list received b (Kind κ) p = rw (p .shared _ (p .two .fits₁)) at (list .low (p .two .x))
+right-low f kinds list received b None p = lit< tt
+right-low f kinds list received b Several p = lit< tt
+
+window-read :
+    (f kinds : List ℕ) (b a : ℕ) (received result result′ : List ℕ) → WindowKindsFromHost f kinds b a received result 0 result′ →
+    AnswerRead f kinds b received result′
+window-read f kinds b a received result result′ h =
+    let g = answered-host (WindowKindsWith f kinds b a received) laidAnswer (window-kinds-others f kinds b a received) (omega arith) h in
+    answered (g .own) (windowKindsRefusal f kinds b a received true) refl (g .promised) (g .out)
+  where
+    answered :
+        (own : WindowKindsResult) (k : ℕ) → windowKindsRefusal f kinds b a received true ≡ k →
+        upon k (λ j. own ≡ decode.Refused j) (AnsweredKinds f kinds b received own) → LaidOut (laidAnswer own) result 0 result′ →
+        AnswerRead f kinds b received result′
+    answered own zero z q out =
+        let list = window-kinds-accepted f kinds b a received true z .list in
+        let low = right-low f kinds list received b (q .answer) (q .right) in
+        record { answer = meaning (q .answer); right = q .right; read = read-out (q .answer) low own (q .is) result out .1 }
+    answered own (suc k) z q out =
+        let e = ap (λ (x : WindowKindsResult). laidAnswer x .returned) q in
+        absurd (omega (arith, out .number))
+
+-- what it yields of the letter x
+yields-low :
+    (kinds : List ℕ) (C : ℕ → Type 0) (x : ℕ) → x < 16 → kindOf kinds x < 16 → (v : KindsAnswer) →
+    Yields (kindOf kinds) C x (meaning v) → numberOf v < 16
+yields-low kinds C x low kind-low (Letter y) p = rw p low
+yields-low kinds C x low kind-low (Kind κ) p = rw (p .0) kind-low
+yields-low kinds C x low kind-low None p = absurd p
+yields-low kinds C x low kind-low Several p = absurd p
+
+yields-read :
+    (kinds : List ℕ) (carried x : ℕ) (v : KindsAnswer) → Yields (kindOf kinds) (Has carried) x (meaning v) → (r : ℕ) (result : List ℕ) →
+    (r ≡ 0) × ReadAs (meaning v) result → HostYields kinds carried x r result
+yields-read kinds carried x (Letter y) p r result q = record { done = q .0; read = inl (q .1 .0, q .1 .1 ∙ p) }
+yields-read kinds carried x (Kind κ) p r result q = record { done = q .0; read = inr (q .1 .0, q .1 .1 ∙ p .0, p .1) }
+yields-read kinds carried x None p r result q = absurd p
+yields-read kinds carried x Several p r result q = absurd p
 
 -- ---- a coded string
 
@@ -138,8 +196,9 @@ strings-yield-from-C f kinds s xs coded small before₁ result₁ r₁ after₁ 
     let x = getD xs (k + w .before) 0 in
     let high = accepted f (coded .file) .entries .limits .inputs-high in
     let low : x < 16 = omega (arith, letter-at _ xs (coded .letters) (k + w .before) (omega arith)) in
+    let small = yields-low kinds (Has (t .carried)) x low (list .low x) (y .answer) (y .yields) in
     rw (t .before-read, t .carried-read)
-    (answer-read kinds (t .carried) x low (list .low x) (y .answer) (y .yields) (v .own) (y .is) result₃ (v .out))
+    (yields-read kinds (t .carried) x (y .answer) (y .yields) r₃ result₃′ (read-out (y .answer) small (v .own) (y .is) result₃ (v .out)))
 
 -- All that is said of kinds.
 pub kinds-hold : Kinds
@@ -147,6 +206,7 @@ kinds-hold =
     record {
       strings = strings-yield;
       strings-from-C = strings-yield-from-C;
+      window-from-C = window-read;
       search = reported;
       search-from-C = λ f kinds result result′ h.
           let r = report-from-C f kinds result result′ h in

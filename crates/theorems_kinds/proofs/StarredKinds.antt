@@ -121,7 +121,9 @@ leftTest f kinds κ (l ∷ ls) =
 
 -- a number in the word is below I; one below I that is not in the word is not carried
 abbrev carriedTest : List ℕ → List ℕ → ℕ → List Left → ℕ → Bool
-carriedTest f kinds u left κ = cond (inWord u κ) (ltb κ (machineOf f .inputs)) (cond (ltb κ (machineOf f .inputs)) (leftTest f kinds κ left) true)
+carriedTest f kinds u left κ =
+    cond (inWord u κ) (ltb κ (machineOf f .inputs))
+    (cond (ltb κ (machineOf f .inputs)) (leftTest f kinds κ left) true)
 
 abbrev sameAnswer : KindsAnswer → KindsAnswer → Bool
 sameAnswer (Letter x) (Letter y) = eqb x y

@@ -1,6 +1,6 @@
--- Kinds of letter (document 02, 8/13), over the promises of the calls alone: what each place of a coded string yields, when "cannot" stands,
--- what is carried, and the report where letters can be told. `kinds-hold` of proofs/Kinds.antt proves the record. Nothing of demand 2's
--- round trip or of demand 3 is said of these windows.
+-- Kinds of letter (document 02, 8/13), over the promises of the calls alone: what each place of a coded string yields, when "cannot"
+-- stands, what is carried, and the report where letters can be told. `kinds-hold` of proofs/Kinds.antt proves the record. Nothing of demand
+-- 2's round trip or of demand 3 is said of these windows.
 use Prim.Native.Nat.{ℕ, _+_, _≤_, _<_}
 use mathlib.Core.Path.{_≡_}
 use mathlib.Core.Logic.{_↔_, _⊎_, _≢_}
@@ -20,7 +20,8 @@ use Rattle.search.specs.Search.{SearchPromise}
 use Rattle.search.specs.declared.Verdict.the-variants.{Least}
 use Rattle.search.specs.declared.SearchResult as search-result
 use Rattle.kinds.specs.Kinds.{tellKinds, tellOne, tellCarried, Carried, Leaves}
-use Rattle.kinds.specs.KindsAnswer.{Yields}
+use Rattle.kinds.specs.KindsAnswer as theory
+use Rattle.kinds.specs.KindsAnswer.{KindsAnswers, Yields}
 use Rattle.kind_list.specs.KindList.{kindOf}
 use Rattle.search_kinds.specs.Search.{SearchKindsPromise}
 use Rattle.search_kinds.specs.declared.KindsVerdict.{KindsVerdict}
@@ -81,6 +82,21 @@ StringsYieldFromC =
     (take (sizeRead result₂′) (drop k (take (fieldAt result₁′ 0) after₁))) result₃ r₃ result₃′ →
     HostYields kinds (fieldAt result₂′ 3) (getD xs (k + fieldAt result₂′ 1) 0) r₃ result₃′
 
+-- ---- the sentence on the decoder, for a host
+
+-- what the fields of an answer say
+abbrev pub ReadAs : theory.KindsAnswer → List ℕ → Type 0
+ReadAs (theory.letter x) result = (fieldAt result 0 ≡ 0) × (fieldAt result 1 ≡ x)
+ReadAs (theory.kindOnly κ) result = (fieldAt result 0 ≡ 1) × (fieldAt result 1 ≡ κ)
+ReadAs theory.none result = fieldAt result 0 ≡ 2
+ReadAs theory.several result = fieldAt result 0 ≡ 3
+
+-- the answer that is right for the letters of the window stands in the fields
+pub record AnswerRead (f kinds : List ℕ) (b : ℕ) (received result : List ℕ) : Type 0 where
+  pub answer : theory.KindsAnswer
+  pub right : KindsAnswers (settingAfter f 0) (kindOf kinds) received b answer
+  pub read : ReadAs answer result
+
 -- ---- what is said of a report
 
 pub record Reported (f kinds : List ℕ) (v : KindsVerdict) : Type 0 where
@@ -109,6 +125,10 @@ pub record Reported (f kinds : List ℕ) (v : KindsVerdict) : Type 0 where
 pub record Kinds : Type 0 where
   pub strings : StringsYield
   pub strings-from-C : StringsYieldFromC
+  -- a window decoded by kinds from C that returns 0
+  pub window-from-C :
+      (f kinds : List ℕ) (b a : ℕ) (received result result′ : List ℕ) → WindowKindsFromHost f kinds b a received result 0 result′ →
+      AnswerRead f kinds b received result′
   pub search : (f kinds : List ℕ) (v : KindsVerdict) → SearchKindsPromise f kinds (Found v) → Reported f kinds v
   -- a search from C that returns 0 has such a report in the fields of its result
   pub search-from-C :

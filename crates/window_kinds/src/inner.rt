@@ -12,8 +12,8 @@ use window_limits::inner::sides;
 
 pub mod answer; // answer.rt: the answer for kinds that a set of letters stands for
 
-// The refusal of the decoder of kinds, or 0: those of the kind list, of the sides, and of the received letters. `fits` says whether all lent
-// buffers are long enough.
+// The refusal of the decoder of kinds, or 0: those of the kind list, of the sides, and of the received letters. `fits` says whether all
+// lent buffers are long enough.
 fn refusal(
     file: &[u8],
     kinds: &[u8],

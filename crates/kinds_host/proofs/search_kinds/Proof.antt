@@ -24,7 +24,8 @@ returns : tie.Need-returns
 returns c =
     let p = c .before .before in
     let v = p .before .before in
-    record { own = v .search-kinds .result; promised = rw (v .before .roomy .ensures) at (v .search-kinds .ensures); out = p .put-search .ensures }
+    let promised = rw (v .before .roomy .ensures) at (v .search-kinds .ensures) in
+    record { own = v .search-kinds .result; promised = promised; out = p .put-search .ensures }
 
 pub search-kinds-spec : {M : Type 1} → statement M
 search-kinds-spec = tie.close (tie.spec roomy-requires search-kinds-requires put-search-requires same-length returns)

@@ -24,7 +24,8 @@ returns : tie.Need-returns
 returns c =
     let p = c .before .before in
     let v = p .before .before in
-    record { own = v .window-kinds .result; promised = rw (v .before .roomy .ensures) at (v .window-kinds .ensures); out = p .put-window .ensures }
+    let promised = rw (v .before .roomy .ensures) at (v .window-kinds .ensures) in
+    record { own = v .window-kinds .result; promised = promised; out = p .put-window .ensures }
 
 pub window-kinds-spec : {M : Type 1} → statement M
 window-kinds-spec = tie.close (tie.spec roomy-requires window-kinds-requires put-window-requires same-length returns)

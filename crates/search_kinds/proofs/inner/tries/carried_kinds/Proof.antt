@@ -45,7 +45,8 @@ loop-again c =
     let t = c .before .before .before in
     let l = t .before .before .pre .product .sound .inputs-high in (
       omega arith,
-      λ starts d. held-more (t .loop .k) (t .loop .inv .1 starts d) (omega arith) (c .before .carries .ensures starts d .yes′ (c .if1 .taken)),
+      λ starts d.
+          held-more (t .loop .k) (t .loop .inv .1 starts d) (omega arith) (c .before .carries .ensures starts d .yes′ (c .if1 .taken)),
     )
 
 loop-less-2 : tie.Need-loop-less-2 Inv-loop μ-loop
