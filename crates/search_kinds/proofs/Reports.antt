@@ -2,6 +2,7 @@
 use mathlib.Core.Path.{_≡_, refl, subst}
 use mathlib.Core.Bool.{Bool, true, not}
 use mathlib.Core.List.{List}
+use mathlib.Core.Logic.{_≢_}
 use Prim.Native.Nat.{ℕ, zero, suc}
 use native.Mathlib.Omega.{arith}
 use lib.Dec.{lit<}
@@ -12,14 +13,13 @@ use Rattle.mealy.specs.Order.{Relation}
 use Rattle.mealy.proofs.Members.{holds-member}
 use Rattle.mealy.proofs.Words.{holds-map}
 use Rattle.mealy.proofs.SameSettings.{same-sym, works-same, least-same}
-use Rattle.mealy.proofs.StartStates.{after-closed}
 use Rattle.coder.specs.Refusal.{refuse}
-use Rattle.coder.specs.Table.{coderOf, machineOfCoder, Sound}
+use Rattle.coder.specs.Table.{coderOf}
 use Rattle.coder.specs.declared.inner.tables.Coder.{Coder}
 use Rattle.coder.proofs.Accepted.{Accepted}
 use Rattle.coder.proofs.Refusals.{refuse-not, first-none}
-use Rattle.setting.specs.Words.{settingOfCoder, StartIn}
-use Rattle.setting.proofs.Same.{coder-sound, coder-machine, word-bounded}
+use Rattle.setting.specs.Words.{settingOfCoder}
+use Rattle.setting.proofs.Same.{coder-sound, coder-machine, started-same}
 use Rattle.values.specs.Order.{relationOf, defaultOrder}
 use Rattle.values.specs.declared.Window.{Window}
 use Rattle.kinds.specs.Kinds as kinds
@@ -27,7 +27,7 @@ use Rattle.kinds.specs.Kinds.{DifferentKinds, DifferentWithin, DifferentCarried
 use Rattle.kinds.proofs.Telling.{same-telling}
 use Rattle.kind_list.specs.KindList.{kindOf, listRefusal}
 use Rattle.kind_list.proofs.KindLists.{ListAccepted, list-accepted}
-use Rattle.search_kinds.specs.Tries.{startedIn}
+use Rattle.search_kinds.specs.Tries.{started}
 use Rattle.search_kinds.specs.Search.{searchKindsRefusal, ToldReport, KindsSays, KindsSaysOf, FoundKinds, SearchKindsPromise}
 use Rattle.search_kinds.specs.declared.KindsVerdict.{KindsVerdict}
 use Rattle.search_kinds.specs.declared.KindsVerdict.the-variants.{Cannot, Told}
@@ -92,38 +92,19 @@ reports-same R {S} {T} e n kind (Told carried w) r =
 
 -- ---- the coder of a file
 
--- with the word of its start states for the settle count p, the coder's setting
-started-same :
-    (c : Coder) → Sound c → (p : ℕ) {starts : ℕ} → Holds (settingOfCoder c p .Start) starts → Same (startedIn c starts) (settingOfCoder c p)
-started-same c sound p {starts} h =
-    let M = machineOfCoder c in
-    let start : (s : ℕ) → StartIn (c .states) starts s → settingOfCoder c p .Start s = λ s q. holds-member h s (q .1) in
-    let start′ : (s : ℕ) → settingOfCoder c p .Start s → StartIn (c .states) starts s = λ s q.
-    (word-bounded c p h sound s (h .has s q), h .has s q) in
-    record {
-      closed = λ s i q l. start′ _ (after-closed M p s i (start s q) l);
-      inputs = refl;
-      start = start;
-      start′ = start′;
-      next = λ s i q l. refl;
-      out = λ s i q l. refl;
-      conflict = λ i j l m d. d;
-      conflict′ = λ i j l m d. d;
-    }
-
 module _ {c : Coder} {f : List ℕ} (e : c ≡ coderOf f) (a : Accepted f) {starts : ℕ} (h : Holds (settingOfCoder c 0 .Start) starts) where
-  started : Same (startedIn c starts) (settingOfCoder c 0)
-  started = started-same c (coder-sound e a) 0 h
+  same-coder : Same (started c starts) (settingOfCoder c 0)
+  same-coder = started-same c (coder-sound e a) 0 h (λ i j. i ≢ j) (λ i j. i ≢ j) (λ i j l m. ((λ d. d), λ d. d))
 
-  pub started-closed : Closed (startedIn c starts)
-  started-closed = started .closed
+  pub started-closed : Closed (started c starts)
+  started-closed = same-coder .closed
 
   pub says-same :
-      (kinds : List ℕ) (v : KindsVerdict) → KindsSays (relationOf defaultOrder) (startedIn c starts) (kindOf kinds) v →
+      (kinds : List ℕ) (v : KindsVerdict) → KindsSays (relationOf defaultOrder) (started c starts) (kindOf kinds) v →
       KindsSaysOf f kinds v
   says-same kinds v r =
       subst (λ (M : Machine). KindsSays (relationOf defaultOrder) (afterLetters M 0) (kindOf kinds) v) (coder-machine e a)
-      (reports-same (relationOf defaultOrder) started refl (kindOf kinds) v r)
+      (reports-same (relationOf defaultOrder) same-coder refl (kindOf kinds) v r)
 
 -- ---- in the terms of the theory
 

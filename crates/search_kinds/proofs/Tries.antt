@@ -3,7 +3,7 @@ use mathlib.Core.Path.{_≡_, refl, sym, subst, _∙_}
 use mathlib.Core.Bool.{Bool, true, false, cond}
 use mathlib.Core.List.{List}
 use mathlib.Core.Logic.{_↔_}
-use Prim.Native.Nat.{ℕ, _^_}
+use Prim.Native.Nat.{ℕ, _^_, _<_}
 use native.Mathlib.Omega.{arith}
 use lib.Dec.{eqb}
 use borrow.Author.Tests.{eqb-true}
@@ -19,7 +19,7 @@ use Rattle.coder.specs.Refusal.{Judges}
 use Rattle.coder.specs.Table.{machineOfCoder, Sound}
 use Rattle.coder.specs.declared.inner.tables.Coder.{Coder}
 use Rattle.coder.proofs.Judging.{judges-yes, judges-not}
-use Rattle.setting.specs.Words.{ConflictsOf}
+use Rattle.setting.specs.Words.{startedIn, ConflictsOf}
 use Rattle.product.proofs.Depths.{start-decided, start-bounded}
 use Rattle.values.specs.Order.{relationOf, defaultOrder}
 use Rattle.values.specs.declared.Window.{Window}
@@ -28,22 +28,21 @@ use Rattle.fitting.specs.declared.Answer.the-variants as Answer
 use Rattle.least.specs.Report.{DepthsOf, LeastGiven}
 use Rattle.least.specs.declared.LeastWindow.{LeastWindow}
 use Rattle.least.specs.declared.LeastWindow.the-variants.{None, Some}
-use Rattle.kinds.specs.Kinds.{DifferentWithin, DifferentCarried, telling, tellKinds, tellCarried, SomeWindow, Carried}
+use Rattle.kinds.specs.Kinds.{DifferentWithin, DifferentCarried}
 use Rattle.kinds.proofs.Telling.{carried→kinds, single-carried}
 use Rattle.kinds.proofs.CarriedKinds.{settled-carried}
 use Rattle.search_kinds.specs.Letters.{OfKind}
-use Rattle.search_kinds.specs.Tries.{startedIn, LeastTold, SomeTold, CarriedGiven}
+use Rattle.search_kinds.specs.Tries.{started, LeastTold, SomeTold, CarriedGiven}
 use Rattle.search_kinds.specs.Search.{KindsSays, verdictOf}
 
 -- ---- one try
 
 module _ (c : Coder) (sound : Sound c) {backs forwards : List (List ℕ)} where
-  -- the words say which letters are told apart
-  words-telling :
-      {D : ℕ → ℕ → Type 0} {conflicts : List ℕ} → ConflictsOf D conflicts → (starts : ℕ) → DepthsOf c starts backs forwards →
-      Same (worded (machineOfCoder c) starts conflicts) (telling (startedIn c starts) D)
-  words-telling are starts d =
-      let h = sound .inputs-high in
+  -- the letters that are told apart, said otherwise
+  same-letters :
+      {D E : ℕ → ℕ → Type 0} → ((i j : ℕ) → i < c .inputs → j < c .inputs → D i j ↔ E i j) → (starts : ℕ) →
+      DepthsOf c starts backs forwards → Same (startedIn c starts D) (startedIn c starts E)
+  same-letters f starts d =
       record {
         closed = d .closed;
         inputs = refl;
@@ -51,9 +50,18 @@ module _ (c : Coder) (sound : Sound c) {backs forwards : List (List ℕ)} where
         start′ = λ s q. q;
         next = λ s i q l. refl;
         out = λ s i q l. refl;
-        conflict = λ i j l m. are .conflict′ i j (omega arith) (omega arith);
-        conflict′ = λ i j l m. are .conflict i j (omega arith) (omega arith);
+        conflict = λ i j l m. f i j l m .0;
+        conflict′ = λ i j l m. f i j l m .1;
       }
+
+  -- by words
+  words-telling :
+      {D : ℕ → ℕ → Type 0} {conflicts : List ℕ} → ConflictsOf D conflicts → (starts : ℕ) → DepthsOf c starts backs forwards →
+      Same (worded (machineOfCoder c) starts conflicts) (startedIn c starts D)
+  words-telling are =
+      let h = sound .inputs-high in
+      same-letters
+      (λ i j l m. (are .conflict′ i j (omega arith) (omega arith), are .conflict i j (omega arith) (omega arith)))
 
   pub tried-telling :
       {D : ℕ → ℕ → Type 0} {conflicts : List ℕ} → ConflictsOf D conflicts → (r : LeastWindow) →
@@ -70,29 +78,13 @@ module _ (c : Coder) (sound : Sound c) {backs forwards : List (List ℕ)} where
         after-small = l .after-small;
       }
 
-  -- the same letters, said otherwise
-  same-letters :
-      {D E : ℕ → ℕ → Type 0} → ((i j : ℕ) → D i j ↔ E i j) → (starts : ℕ) → DepthsOf c starts backs forwards →
-      Same (telling (startedIn c starts) D) (telling (startedIn c starts) E)
-  same-letters f starts d =
-      record {
-        closed = d .closed;
-        inputs = refl;
-        start = λ s q. q;
-        start′ = λ s q. q;
-        next = λ s i q l. refl;
-        out = λ s i q l. refl;
-        conflict = λ i j l m. f i j .0;
-        conflict′ = λ i j l m. f i j .1;
-      }
-
   module _ {D E : ℕ → ℕ → Type 0} (f : (i j : ℕ) → D i j ↔ E i j) where
     pub told-none : LeastTold c backs forwards D None → SomeTold c backs forwards E false
     told-none g starts d =
-        judges-not (λ w. g starts d (w .0) (w .1) (works-same (same-sym (same-letters f starts d)) (w .0) (w .1) (w .2)))
+        judges-not (λ w. g starts d (w .0) (w .1) (works-same (same-sym (same-letters (λ i j l m. f i j) starts d)) (w .0) (w .1) (w .2)))
 
     pub told-some : (w : Window) → LeastTold c backs forwards D (Some w) → SomeTold c backs forwards E true
-    told-some w g starts d = judges-yes (_, _, works-same (same-letters f starts d) _ _ (g starts d .least .works))
+    told-some w g starts d = judges-yes (_, _, works-same (same-letters (λ i j l m. f i j) starts d) _ _ (g starts d .least .works))
 
 -- ---- a kind of which no two letters differ
 
@@ -132,14 +124,14 @@ pub single-told :
     ((i j : ℕ) → OfKind kind κ i → OfKind kind κ j → i ≡ j) → SomeTold c backs forwards (DifferentWithin kind κ) true
 single-told c sound kind κ one starts d =
     let h = sound .inputs-high in
-    judges-yes (single-carried (startedIn c starts) kind κ (λ i j l m p q. one i j (omega arith, p) (omega arith, q)))
+    judges-yes (single-carried (started c starts) kind κ (λ i j l m p q. one i j (omega arith, p) (omega arith, q)))
 
 -- ---- the report
 
 module _ (c : Coder) (sound : Sound c) (starts : ℕ) {backs forwards : List (List ℕ)} (d : DepthsOf c starts backs forwards)
     (kind : ℕ → ℕ) where
   abbrev S : Setting
-  S = startedIn c starts
+  S = started c starts
 
   settled : (e : Direction) → Settled S e (pairs (c .states))
   settled e = settled-by S (start-decided c back starts sound) (start-bounded c back starts sound) e (pairs (c .states)) (omega arith)
@@ -152,13 +144,13 @@ module _ (c : Coder) (sound : Sound c) (starts : ℕ) {backs forwards : List (Li
         let n = pairs (c .states) in
         let h = carried starts d in
         let w = settled-carried S (d .closed) n n (settled back) (settled forward) kind (b, a, f) (Has u) (λ κ m. holds-member h κ m .1) in
-        t starts d n n (works-same (same-sym (same-letters c sound same starts d)) n n w)
+        t starts d n n (works-same (same-sym (same-letters c sound (λ i j l m. same i j) starts d)) n n w)
     reported (Some w) t =
         let l = t starts d in
         record {
           settle = l .settle;
           carried-are = carried starts d;
-          least = least-same (same-letters c sound same starts d) (relationOf defaultOrder) _ _ (l .least);
+          least = least-same (same-letters c sound (λ i j l m. same i j) starts d) (relationOf defaultOrder) _ _ (l .least);
           before-small = l .before-small;
           after-small = l .after-small;
         }

@@ -3,7 +3,7 @@ ghost use mathlib.Core.Path.{_≡_};
 ghost use mathlib.Core.Bool.{true};
 ghost use Rattle.values.specs.Order.{relationOf, defaultOrder};
 ghost use Rattle.kind_list.specs.KindList.{kindOf};
-ghost use Rattle.search_kinds.specs.Tries.{startedIn, FindAsked};
+ghost use Rattle.search_kinds.specs.Tries.{started, FindAsked};
 ghost use Rattle.search_kinds.specs.Search.{searchKindsRefusal, verdictOf, KindsSays, KindsSaysOf, SearchKindsWith};
 use crate::KindsResult;
 use crate::KindsVerdict;
@@ -40,7 +40,7 @@ fn verdict_of(carried: u16, least: LeastWindow) -> KindsVerdict
 // The report on a coder whose runs start in the states of the word.
 fn find(c: Coder, starts: u16, kinds: &[u8]) -> KindsVerdict
     requires { ⌜ FindAsked c starts (now kinds) ⌝ }
-    ensures { λ r. ⌜ KindsSays (relationOf defaultOrder) (startedIn c starts) (kindOf (now (kinds .entry))) r ⌝ }
+    ensures { λ r. ⌜ KindsSays (relationOf defaultOrder) (started c starts) (kindOf (now (kinds .entry))) r ⌝ }
 {
     let states = c.states;
     let inputs = c.inputs;

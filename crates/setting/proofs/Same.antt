@@ -1,9 +1,10 @@
 -- From the words of a coder's setting to the setting of its file.
 use mathlib.Core.Path.{_≡_, refl, ap, _∙_, subst}
-use mathlib.Core.Logic.{_≢_}
+use mathlib.Core.Logic.{_↔_, _≢_}
 use mathlib.Core.List.{List}
 use Prim.Native.Nat.{ℕ, _<_}
 use native.Mathlib.Omega.{arith}
+use lib.ListN.{getD}
 use Rattle.mealy.specs.Machine.{Machine}
 use Rattle.mealy.specs.Word.{Has, Holds}
 use Rattle.mealy.specs.Setting.{Same, Closed, Bounded, afterLettersWith, worded}
@@ -15,7 +16,7 @@ use Rattle.coder.specs.Table.{coderOf, machineOfCoder, Sound}
 use Rattle.coder.specs.declared.inner.tables.Coder.{Coder}
 use Rattle.coder.proofs.Accepted.{Accepted}
 use Rattle.coder.proofs.Tables.{machine-same, sound-coder}
-use Rattle.setting.specs.Words.{settingOfCoder, fromWord, WordsOf}
+use Rattle.setting.specs.Words.{settingOfCoder, fromWord, startedIn, StartIn, WordsOf}
 
 -- the start states of a coder's tables are states of it
 coder-bounded : (c : Coder) → Sound c → (p : ℕ) → Bounded (settingOfCoder c p)
@@ -29,15 +30,15 @@ module _ (c : Coder) (p : ℕ) {starts : ℕ} (h : Holds (settingOfCoder c p .St
   pub word-bounded : Sound c → Bounded (fromWord c starts)
   word-bounded sound s q = coder-bounded c sound p s (holds-member h s q)
 
--- the setting of the words is that of the coder, whichever letters conflict
-words-same :
-    {c : Coder} {p : ℕ} {C : ℕ → ℕ → Type 0} {starts : ℕ} {conflicts : List ℕ} → Sound c → WordsOf c p C starts conflicts →
-    Same (worded (machineOfCoder c) starts conflicts) (afterLettersWith (machineOfCoder c) p C)
-words-same {c} {p} {C} {starts} sound w =
+-- the setting whose runs start in the states of the word is that of the coder, whichever letters conflict; D says the same of the coder's
+-- letters as C
+pub started-same :
+    (c : Coder) → Sound c → (p : ℕ) {starts : ℕ} → Holds (settingOfCoder c p .Start) starts → (D C : ℕ → ℕ → Type 0) →
+    ((i j : ℕ) → i < c .inputs → j < c .inputs → D i j ↔ C i j) → Same (startedIn c starts D) (afterLettersWith (machineOfCoder c) p C)
+started-same c sound p {starts} h D C same =
     let S = afterLettersWith (machineOfCoder c) p C in
-    let h = sound .inputs-high in
-    let start : (s : ℕ) → (s < c .states) × Has starts s → S .Start s = λ s q. holds-member (w .starts-are) s (q .1) in
-    let start′ : (s : ℕ) → S .Start s → (s < c .states) × Has starts s = λ s q. (coder-bounded c sound p s q, w .starts-are .has s q) in
+    let start : (s : ℕ) → StartIn (c .states) starts s → S .Start s = λ s q. holds-member h s (q .1) in
+    let start′ : (s : ℕ) → S .Start s → StartIn (c .states) starts s = λ s q. (coder-bounded c sound p s q, h .has s q) in
     record {
       closed = λ s i q l. start′ _ (after-closed (machineOfCoder c) p s i (start s q) l);
       inputs = refl;
@@ -45,9 +46,21 @@ words-same {c} {p} {C} {starts} sound w =
       start′ = start′;
       next = λ s i q l. refl;
       out = λ s i q l. refl;
-      conflict = λ i j l m. w .conflicts-are .conflict′ i j (omega arith) (omega arith);
-      conflict′ = λ i j l m. w .conflicts-are .conflict i j (omega arith) (omega arith);
+      conflict = λ i j l m. same i j l m .0;
+      conflict′ = λ i j l m. same i j l m .1;
     }
+
+-- the setting of the words is that of the coder
+words-same :
+    {c : Coder} {p : ℕ} {C : ℕ → ℕ → Type 0} {starts : ℕ} {conflicts : List ℕ} → Sound c → WordsOf c p C starts conflicts →
+    Same (worded (machineOfCoder c) starts conflicts) (afterLettersWith (machineOfCoder c) p C)
+words-same {c} {p} {C} {conflicts = conflicts} sound w =
+    let h = sound .inputs-high in
+    started-same c sound p (w .starts-are) (λ i j. Has (getD conflicts i 0) j) C
+    (λ i j l m. (
+      w .conflicts-are .conflict′ i j (omega arith) (omega arith),
+      w .conflicts-are .conflict i j (omega arith) (omega arith),
+    ))
 
 -- the coder of an accepted file
 module _ {c : Coder} {f : List ℕ} (e : c ≡ coderOf f) (a : Accepted f) where

@@ -22,6 +22,10 @@ fromWord c starts = record { M = machineOfCoder c; Start = Has starts; Conflict 
 abbrev pub StartIn : ℕ → ℕ → ℕ → Type 0
 StartIn n starts s = (s < n) × Has starts s
 
+-- the setting whose runs start in these states, and in which the letters conflict that D says
+abbrev pub startedIn : Coder → ℕ → (ℕ → ℕ → Type 0) → Setting
+startedIn c starts D = record { M = machineOfCoder c; Start = StartIn (c .states) starts; Conflict = D }
+
 -- both states of a pair are start states
 abbrev pub BothStart : ℕ → ℕ → ℕ → ℕ → Type 0
 BothStart n starts u v = StartIn n starts u × StartIn n starts v

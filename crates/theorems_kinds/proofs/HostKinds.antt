@@ -24,6 +24,7 @@ use Rattle.layout.proofs.Hosting.{from-host, answered-host}
 use Rattle.kinds.specs.KindsAnswer.{KindsAnswers, Yields}
 use Rattle.kind_list.specs.KindList.{kindOf}
 use Rattle.kind_list.proofs.KindLists.{ListAccepted}
+use Rattle.search_host.specs.Laid.{SearchFromHost}
 use Rattle.search_kinds.specs.Search.{searchKindsRefusal, FoundKinds, SearchKindsWith, SearchKindsPromise}
 use Rattle.search_kinds.specs.declared.KindsVerdict.{KindsVerdict}
 use Rattle.search_kinds.specs.declared.KindsVerdict.the-variants.{Cannot, Told}
@@ -41,7 +42,8 @@ use Rattle.window_kinds.specs.declared.WindowKindsResult.the-variants.{Answered
 use Rattle.window_kinds.proofs.Accepting.{window-kinds-accepted}
 use Rattle.kinds_host.proofs.Hosting.{search-kinds-others, window-kinds-others}
 use Rattle.theorems.proofs.RoundTrip.{not-refused}
-use Rattle.theorems.proofs.HostReads.{first-read, second-read}
+use Rattle.theorems.specs.RoundTrip.{windowRead}
+use Rattle.theorems.proofs.HostReads.{first-read, second-read, window-found}
 use Rattle.theorems_kinds.specs.Kinds.{HostYields, StringsYieldFromC, ReadAs, AnswerRead, Kinds}
 use Rattle.theorems_kinds.proofs.Strings.{inputs-are, sides-high, strings-yield}
 use Rattle.theorems_kinds.proofs.Told.{reported}
@@ -72,34 +74,55 @@ report-from-C f kinds result result′ h =
 
 -- ---- a report with a window, as the host reads it
 
-record ToldRead (f kinds result′ : List ℕ) : Type 0 where
-  carried : ℕ
-  told : Window
-  promised : SearchKindsPromise f kinds (Found (Told carried told))
+record ToldFields (carried : ℕ) (told : Window) (result′ : List ℕ) : Type 0 where
+  told-read : fieldAt result′ 0 ≡ 0
   before-read : fieldAt result′ 1 ≡ told .before
   after-read : fieldAt result′ 2 ≡ told .after
   carried-read : fieldAt result′ 3 ≡ carried
 
-told-read : (f kinds result result′ : List ℕ) → ReportFromC f kinds result result′ → fieldAt result′ 0 ≡ 0 → ToldRead f kinds result′
-told-read f kinds result result′ r e =
+told-fields :
+    (f kinds result : List ℕ) (u : ℕ) (w : Window) → SearchKindsPromise f kinds (Found (Told u w)) →
+    ToldFields u w (withFields result (kindsFields (Told u w)))
+told-fields f kinds result u w p =
+    let g = report-says f kinds (Told u w) p in
+    let ok = g .accepted-call .list .file in
+    let ns = kindsFields (Told u w) in
+    record {
+      told-read = field-at result ns 0 (lit< tt) (lit< tt);
+      before-read = field-at result ns 1 (lit< tt) (omega (arith, sides-high f ok (g .says .before-small)));
+      after-read = field-at result ns 2 (lit< tt) (omega (arith, sides-high f ok (g .says .after-small)));
+      carried-read = field-at result ns 3 (lit< tt) (let b : u < 65536 = g .says .carried-are .bound in omega arith);
+    }
+
+record ToldRead (f kinds result′ : List ℕ) : Type 0 where
+  carried : ℕ
+  told : Window
+  promised : SearchKindsPromise f kinds (Found (Told carried told))
+  fields : ToldFields carried told result′
+
+report-read : (f kinds result result′ : List ℕ) → ReportFromC f kinds result result′ → fieldAt result′ 0 ≡ 0 → ToldRead f kinds result′
+report-read f kinds result result′ r e =
     rw (r .fields) (go (r .verdict) (r .promised) (sym (ap (λ (x : List ℕ). fieldAt x 0) (r .fields)) ∙ e))
   where
     go :
         (v : KindsVerdict) → SearchKindsPromise f kinds (Found v) → fieldAt (withFields result (kindsFields v)) 0 ≡ 0 →
         ToldRead f kinds (withFields result (kindsFields v))
     go Cannot p z = absurd (omega (arith, field-at result (kindsFields Cannot) 0 (lit< tt) (lit< tt)))
-    go (Told u w) p z =
-        let g = report-says f kinds (Told u w) p in
-        let ok = g .accepted-call .list .file in
-        let ns = kindsFields (Told u w) in
-        record {
-          carried = u;
-          told = w;
-          promised = p;
-          before-read = field-at result ns 1 (lit< tt) (omega (arith, sides-high f ok (g .says .before-small)));
-          after-read = field-at result ns 2 (lit< tt) (omega (arith, sides-high f ok (g .says .after-small)));
-          carried-read = field-at result ns 3 (lit< tt) (let b : u < 65536 = g .says .carried-are .bound in omega arith);
-        }
+    go (Told u w) p z = record { carried = u; told = w; promised = p; fields = told-fields f kinds result u w p }
+
+-- beside a search for letters that has found a window
+letters-read :
+    (f kinds before result after result′ : List ℕ) → SearchFromHost f 0 before result 0 after result′ → fieldAt result′ 0 ≡ 0 →
+    (result₂ result₂′ : List ℕ) → SearchKindsFromHost f kinds result₂ 0 result₂′ →
+    (fieldAt result₂′ 0 ≡ 0) × (fieldAt result₂′ 1 ≡ fieldAt result′ 1) × (fieldAt result₂′ 2 ≡ fieldAt result′ 2) ×
+    ((κ : ℕ) → κ < inputsOf f → Has (fieldAt result₂′ 3) κ)
+letters-read f kinds before result after result′ h e result₂ result₂′ g =
+    let r = report-from-C f kinds result₂ result₂′ g in
+    let file = report-says f kinds (r .verdict) (r .promised) .accepted-call .list .file in
+    let p = window-found f file 0 before result after result′ h e in
+    let a = reported f kinds (r .verdict) (r .promised) .as-letters before after (windowRead result′ 0) p in
+    let t = told-fields f kinds result₂ (a .0) (windowRead result′ 0) (rw (a .1) at (r .promised)) in
+    rw (r .fields, a .1) (t .told-read, t .before-read, t .after-read, λ κ l. rw (t .carried-read) (a .2 κ l))
 
 -- ---- an answer, as the host reads it
 
@@ -182,14 +205,14 @@ strings-yield-from-C f kinds s xs coded small before₁ result₁ r₁ after₁ 
     let u = from-host (λ others own. RunWith f s xs before₁ others own after₁) laidRun long₁ ran in
     let ended = rw (not-refused f s xs coded before₁ room₁) at (u .promised .result) in
     let sent = first-read result₁ (laidRun (u .own)) (length xs) _ (ap laidRun ended) small (u .out) in
-    let t = told-read f kinds result₂ result₂′ (report-from-C f kinds result₂ result₂′ found) is-told in
+    let t = report-read f kinds result₂ result₂′ (report-from-C f kinds result₂ result₂′ found) is-told in
     let w = t .told in
     let list = report-says f kinds (Told (t .carried) w) (t .promised) .accepted-call .list in
-    let full′ : k + size w ≤ length xs = rw (t .before-read, t .after-read) at full in
+    let full′ : k + size w ≤ length xs = rw (t .fields .before-read, t .fields .after-read) at full in
     let part = take (size w) (drop k (take (length xs) after₁)) in
     let v =
     from-host (WindowKindsWith f kinds (w .before) (w .after) part) laidAnswer long₃
-    (rw (t .before-read, t .after-read, sent .1) at decoded) in
+    (rw (t .fields .before-read, t .fields .after-read, sent .1) at decoded) in
     let y =
     strings-yield f kinds s xs coded before₁ (u .own) after₁ room₁ (u .promised) (t .carried) w (t .promised) k full′ (v .own)
     (v .promised) in
@@ -197,7 +220,7 @@ strings-yield-from-C f kinds s xs coded small before₁ result₁ r₁ after₁ 
     let high = accepted f (coded .file) .entries .limits .inputs-high in
     let low : x < 16 = omega (arith, letter-at _ xs (coded .letters) (k + w .before) (omega arith)) in
     let small = yields-low kinds (Has (t .carried)) x low (list .low x) (y .answer) (y .yields) in
-    rw (t .before-read, t .carried-read)
+    rw (t .fields .before-read, t .fields .carried-read)
     (yields-read kinds (t .carried) x (y .answer) (y .yields) r₃ result₃′ (read-out (y .answer) small (v .own) (y .is) result₃ (v .out)))
 
 -- All that is said of kinds.
@@ -208,6 +231,7 @@ kinds-hold =
       strings-from-C = strings-yield-from-C;
       window-from-C = window-read;
       search = reported;
+      as-letters-from-C = letters-read;
       search-from-C = λ f kinds result result′ h.
           let r = report-from-C f kinds result result′ h in
           (r .verdict, r .fields, reported f kinds (r .verdict) (r .promised));

@@ -17,6 +17,7 @@ use Rattle.values.specs.Order.{defaultOrder}
 use Rattle.values.specs.declared.Window.{Window}
 use Rattle.layout.specs.Layout.{resultBytes, withFields, fieldAt}
 use Rattle.search.specs.Search.{SearchPromise}
+use Rattle.search_host.specs.Laid.{SearchFromHost}
 use Rattle.search.specs.declared.Verdict.the-variants.{Least}
 use Rattle.search.specs.declared.SearchResult as search-result
 use Rattle.kinds.specs.Kinds.{tellKinds, tellOne, tellCarried, Carried, Leaves}
@@ -130,6 +131,12 @@ pub record Kinds : Type 0 where
       (f kinds : List ℕ) (b a : ℕ) (received result result′ : List ℕ) → WindowKindsFromHost f kinds b a received result 0 result′ →
       AnswerRead f kinds b received result′
   pub search : (f kinds : List ℕ) (v : KindsVerdict) → SearchKindsPromise f kinds (Found v) → Reported f kinds v
+  -- where a search for letters from C with settle count 0 has a window in its fields, one for kinds has the same there, and every kind
+  pub as-letters-from-C :
+      (f kinds before result after result′ : List ℕ) → SearchFromHost f 0 before result 0 after result′ → fieldAt result′ 0 ≡ 0 →
+      (result₂ result₂′ : List ℕ) → SearchKindsFromHost f kinds result₂ 0 result₂′ →
+      (fieldAt result₂′ 0 ≡ 0) × (fieldAt result₂′ 1 ≡ fieldAt result′ 1) × (fieldAt result₂′ 2 ≡ fieldAt result′ 2) ×
+      ((κ : ℕ) → κ < inputsOf f → Has (fieldAt result₂′ 3) κ)
   -- a search from C that returns 0 has such a report in the fields of its result
   pub search-from-C :
       (f kinds result result′ : List ℕ) → SearchKindsFromHost f kinds result 0 result′ →

@@ -6,7 +6,7 @@ use native.Mathlib.Omega.{arith}
 use Rattle.mealy.specs.Word.{Holds}
 use Rattle.least.specs.Report.{DepthsOf}
 use Rattle.kind_list.specs.KindList.{kindOf}
-use Rattle.search_kinds.specs.Tries.{startedIn, CarriedBelow}
+use Rattle.search_kinds.specs.Tries.{started, CarriedBelow}
 use Rattle.search_kinds.proofs.Apart.{held-none, held-more, held-less}
 use Rattle.search_kinds.proofs.inner.tries.carried_kinds.Statement.{statement}
 use Rattle.search_kinds.proofs.inner.tries.carried_kinds.Tie as tie
@@ -14,7 +14,7 @@ use Rattle.search_kinds.proofs.inner.tries.carried_kinds.Tie as tie
 abbrev Inv-loop : tie.InvT-loop
 Inv-loop c last previous backs forwards kinds inputs carried₀ k₀ carried k =
     (k ≤ inputs) ×
-    ((starts : ℕ) → DepthsOf c starts backs forwards → Holds (CarriedBelow (startedIn c starts) (kindOf kinds) k) carried)
+    ((starts : ℕ) → DepthsOf c starts backs forwards → Holds (CarriedBelow (started c starts) (kindOf kinds) k) carried)
 
 abbrev μ-loop : tie.MeasureT-loop
 μ-loop c last previous backs forwards kinds inputs carried₀ k₀ carried k = inputs - k
