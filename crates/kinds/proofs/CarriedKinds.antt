@@ -1,7 +1,6 @@
 -- The levels are the same whatever letters are told apart, so some window works exactly when no edge on letters to tell apart leads from
 -- a settled back level to a settled forward level; and the window of the settled levels serves all carried kinds together.
-use mathlib.Core.Logic.{_↔_, inl, inr, Dec·and, Dec·not}
-use mathlib.Core.Logic.{_≢_}
+use mathlib.Core.Logic.{_↔_, _≢_, inl, inr, Dec·and, Dec·not}
 use mathlib.Core.Path.{_≡_}
 use Prim.Native.Nat.{ℕ}
 use native.Mathlib.Omega.{arith}

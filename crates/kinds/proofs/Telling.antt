@@ -4,8 +4,7 @@ use mathlib.Core.Logic.{_↔_, _≢_, inl, inr}
 use Prim.Native.Nat.{ℕ, _<_}
 use native.Mathlib.Omega.{arith}
 use native.Mathlib.Decide.{ℕ-discrete}
-use Rattle.mealy.specs.Machine.{Machine}
-use Rattle.mealy.specs.Setting.{Setting, Same, afterLetters}
+use Rattle.mealy.specs.Setting.{Setting, Same}
 use Rattle.mealy.specs.Window.{Works}
 use Rattle.mealy.specs.Order.{Relation, Least}
 use Rattle.mealy.proofs.Letters.{letter-at}
@@ -31,10 +30,6 @@ least-included S D E f g R b a l = record {
   works = works-included S D E f b a (l .works);
   least = λ b′ a′ h. l .least b′ a′ (works-included S E D g b′ a′ h);
 }
-
--- the setting of a coder's windows tells letters
-pub letters-after : (M : Machine) (p : ℕ) → tellLetters (afterLetters M p) ≡ afterLetters M p
-letters-after M p = refl
 
 -- settings that say the same, with the same letters to tell apart
 pub same-telling : {S T : Setting} → Same S T → (D : ℕ → ℕ → Type 0) → Same (telling S D) (telling T D)

@@ -22,7 +22,7 @@ use Rattle.setting.specs.Words.{settingOfCoder}
 use Rattle.setting.proofs.Same.{coder-sound, coder-machine, started-same}
 use Rattle.values.specs.Order.{relationOf, defaultOrder}
 use Rattle.values.specs.declared.Window.{Window}
-use Rattle.kinds.specs.Kinds as kinds
+use Rattle.kinds.specs.Kinds as theory
 use Rattle.kinds.specs.Kinds.{DifferentKinds, DifferentWithin, DifferentCarried, Carried}
 use Rattle.kinds.proofs.Telling.{same-telling}
 use Rattle.kind_list.specs.KindList.{kindOf, listRefusal}
@@ -110,7 +110,7 @@ module _ {c : Coder} {f : List ℕ} (e : c ≡ coderOf f) (a : Accepted f) {star
 
 pub report-found :
     {R : Relation} {S : Setting} {kind : ℕ → ℕ} {carried : ℕ} {w : Window} → ToldReport R S kind carried w →
-    kinds.Found R S kind (Has carried) (w .before) (w .after)
+    theory.Found R S kind (Has carried) (w .before) (w .after)
 report-found r = record {
   carried = λ κ l. ((λ m. holds-member (r .carried-are) κ m .1), λ c. r .carried-are .has κ (l, c));
   least = r .least;

@@ -13,7 +13,7 @@ use Rattle.values.specs.Order.{relationOf, defaultOrder}
 use Rattle.values.specs.declared.Window.{Window}
 use Rattle.least.specs.declared.LeastWindow.{LeastWindow}
 use Rattle.least.specs.declared.LeastWindow.the-variants.{None, Some}
-use Rattle.kinds.specs.Kinds as kinds
+use Rattle.kinds.specs.Kinds as theory
 use Rattle.kinds.specs.Kinds.{tellCarried}
 use Rattle.kind_list.specs.KindList.{kindOf, listRefusal}
 use Rattle.search_kinds.specs.Tries.{CarriedBelow}
@@ -39,7 +39,7 @@ pub record ToldReport (R : Relation) (S : Setting) (kind : ℕ → ℕ) (carried
 
 -- Document 02, 8/13, fourth sentence.
 abbrev pub KindsSays : Relation → Setting → (ℕ → ℕ) → KindsVerdict → Type 0
-KindsSays R S kind Cannot = kinds.Cannot S kind
+KindsSays R S kind Cannot = theory.Cannot S kind
 KindsSays R S kind (Told carried w) = ToldReport R S kind carried w
 
 -- from the word of the carried kinds and the least window for them

@@ -9,6 +9,7 @@ pub mod TableShows
 pub mod SearchChecked
 pub mod Exists
 pub mod Tests
+pub mod CasesHold
 pub mod Starred
 pub mod Alike
 pub mod SpareStates

@@ -73,7 +73,9 @@ use Rattle.search.specs.declared.SearchResult.the-variants.{Found}
 use Rattle.checker.specs.Check.{checkRefusal, CheckedRight}
 use Rattle.checker.proofs.Determined.{checked-as}
 use Rattle.theorems.specs.Starred as claimed
-use Rattle.theorems.specs.Starred.{Claim, Case, Holds, AllHold, AllCases, starred}
+use Rattle.theorems.specs.Cases.{AllCases}
+use Rattle.theorems.specs.Starred.{Claim, Holds, starred}
+use Rattle.theorems.proofs.CasesHold.{testCases, cases-hold}
 use Rattle.theorems.proofs.Tests.{sameList, same-list, allStarts, allWords, apart, agree, worksTest, laterOrFails}
 use Rattle.theorems.proofs.Tests.{leastTest, least-letters}
 use Rattle.theorems.proofs.Tests.{closesTest, validTest, test-valid, noEarlier, firstTest, first-size, first-test, differentTest}
@@ -323,27 +325,7 @@ module _ (f : List ℕ) (z : fileRefusal f ≡ 0) where
 
 -- ---- the table
 
-abbrev testClaims : List ℕ → List Claim → Bool
-testClaims f [] = true
-testClaims f (c ∷ cs) = test f c && testClaims f cs
-
-abbrev testCases : List Case → Bool
-testCases [] = true
-testCases (c ∷ cs) = eqb (fileRefusal (c .file)) 0 && (testClaims (c .file) (c .claims) && testCases cs)
-
-claims-hold : (f : List ℕ) → fileRefusal f ≡ 0 → (cs : List Claim) → testClaims f cs ≡ true → AllHold f cs
-claims-hold f z [] e = tt
-claims-hold f z (c ∷ cs) e = let t = both-true (test f c) (testClaims f cs) e in (claim-holds f z c (t .0), claims-hold f z cs (t .1))
-
-cases-hold : (cs : List Case) → testCases cs ≡ true → AllCases cs
-cases-hold [] e = tt
-cases-hold (c ∷ cs) e =
-    let t = both-true (eqb (fileRefusal (c .file)) 0) (testClaims (c .file) (c .claims) && testCases cs) e in
-    let u = both-true (testClaims (c .file) (c .claims)) (testCases cs) (t .1) in
-    let z = eqb-true (fileRefusal (c .file)) 0 (t .0) in
-    (z, claims-hold (c .file) z (c .claims) (u .0), cases-hold cs (u .1))
-
-passed : testCases starred ≡ true
+passed : testCases test starred ≡ true
 unfolding test entriesWord imageWord inStepsWord startsWord allStarts bigEndian checkRefusal windowRefusal stringRefusal tableRefusal
     runRefusal limitsRefusal sidesRefusal settleRefusal leastTest laterOrFails worksTest agree allWords noEarlier firstTest validTest
     closesTest differentTest allBelow someBelow named fileRefusal entriesRefusal inRange within entryInRange machineOf entryOf coderOf
@@ -351,5 +333,5 @@ unfolding test entriesWord imageWord inStepsWord startsWord allStarts bigEndian 
 passed = refl
 
 -- every starred case: its file is accepted, and all that is claimed of it holds
-pub starred-hold : AllCases starred
-starred-hold = cases-hold starred passed
+pub starred-hold : AllCases Holds starred
+starred-hold = cases-hold test Holds claim-holds starred passed

@@ -7,6 +7,7 @@ pub mod SearchChecked
 pub mod Exists
 pub mod SameAnswers
 pub mod SpareStates
+pub mod Cases
 pub mod Starred
 pub mod Demands
 pub mod SettleCounts

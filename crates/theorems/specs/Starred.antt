@@ -9,7 +9,7 @@ use mathlib.Core.Bool.{true, false}
 use mathlib.Core.List.{List, [], _∷_, _++_}
 use lib.ListN.{length, drop}
 use Rattle.mealy.specs.LoopedPair as mealy
-use Rattle.coder.specs.File.{fileRefusal, statesOf, inputsOf, machineOf}
+use Rattle.coder.specs.File.{statesOf, inputsOf, machineOf}
 use Rattle.reader.specs.Read.{headerOf}
 use Rattle.reader.specs.declared.Header.{Header}
 use Rattle.reader.specs.declared.Header.the-variants.{Counts}
@@ -39,6 +39,7 @@ use Rattle.search.specs.declared.SearchResult.the-variants.{Found}
 use Rattle.checker.specs.Check.{CheckPromise}
 use Rattle.checker.specs.declared.CheckResult.{CheckResult}
 use Rattle.checker.specs.declared.CheckResult.the-variants.{Checked}
+use Rattle.theorems.specs.Cases.{Case}
 
 pub data Claim : Type 0 where
   -- the reader gives these counts
@@ -95,11 +96,7 @@ Holds f (run s xs os e) =
     (before : List ℕ) (r : RunResult) (after : List ℕ) → length xs ≤ length before → RunPromise f s xs before r after →
     (r ≡ run-result.the-variants.Done (length xs) e) × (after ≡ os ++ drop (length xs) before)
 
-pub record Case : Type 0 where
-  pub file : List ℕ
-  pub claims : List Claim
-
-abbrev pub starred : List Case
+abbrev pub starred : List (Case Claim)
 starred =
     -- A, running parity
     record {
@@ -138,12 +135,3 @@ starred =
       claims = window defaultOrder 0 0 0 ∷ window FewestLetters 0 0 0 ∷ table 0 0 0 (0 ∷ 1 ∷ []) ∷ not-valid 1 1 (0 ∷ 0 ∷ 0 ∷ 1 ∷ 0 ∷ 0 ∷ []) ∷ not-valid 0 1 (0 ∷ 0 ∷ 0 ∷ 1 ∷ 0 ∷ 0 ∷ []) ∷ run 1 (1 ∷ 0 ∷ []) (0 ∷ 0 ∷ []) 1 ∷ [];
     } ∷
     []
-
--- The file is accepted and all its claims hold; and so for each case of a list.
-abbrev pub AllHold : List ℕ → List Claim → Type 0
-AllHold f [] = Unit {0}
-AllHold f (c ∷ cs) = Holds f c × AllHold f cs
-
-abbrev pub AllCases : List Case → Type 0
-AllCases [] = Unit {0}
-AllCases (c ∷ cs) = (fileRefusal (c .file) ≡ 0) × AllHold (c .file) (c .claims) × AllCases cs

@@ -1,9 +1,9 @@
 -- The worked examples hold: one computed test over the table, and a law from the test to each claim.
-use mathlib.Core.Path.{_≡_, refl, ap, _∙_}
+use mathlib.Core.Path.{_≡_, refl, sym, ap, ap₂, _∙_}
 use mathlib.Core.Bool.{Bool, true, false, not, _&&_, cond}
 use mathlib.Core.List.{List, [], _∷_}
 use mathlib.Core.Logic.{inl, inr}
-use Prim.Native.Nat.{ℕ, _/_, _%_, _^_, _≤_, _<_}
+use Prim.Native.Nat.{ℕ, zero, suc, _/_, _%_, _^_, _≤_, _<_}
 use native.Mathlib.Omega.{arith}
 use native.Mathlib.Decide.{ℕ-discrete}
 use lib.Dec.{ltb, eqb}
@@ -57,11 +57,13 @@ use Rattle.window_kinds.proofs.Accepting.{window-kinds-accepted}
 use Rattle.window_kinds.proofs.Determined.{window-kinds-determined}
 use Rattle.window_kinds.proofs.SetAnswers.{holds-kinds-right}
 use Rattle.theorems.specs.Starred.{pair}
+use Rattle.theorems.specs.Cases.{AllCases}
+use Rattle.theorems.proofs.CasesHold.{testCases, cases-hold}
 use Rattle.theorems.proofs.Tests.{allStarts, allWords, agree, worksTest, laterOrFails, leastTest, least-test}
 use Rattle.theorems.proofs.Tests.{closesTest, validTest, valid-test}
 use Rattle.theorems_kinds.proofs.Strings.{inputs-are}
 use Rattle.theorems_kinds.specs.Starred as claimed
-use Rattle.theorems_kinds.specs.Starred.{Evidence, Left, Claim, Case, Holds, AllHold, AllCases, starredKinds}
+use Rattle.theorems_kinds.specs.Starred.{Evidence, Left, Claim, Holds, starredKinds}
 
 -- ---- which letters conflict
 
@@ -125,41 +127,39 @@ carriedTest f kinds u left κ =
     cond (inWord u κ) (ltb κ (machineOf f .inputs))
     (cond (ltb κ (machineOf f .inputs)) (leftTest f kinds κ left) true)
 
+-- an answer by the number of its case, and its letter or kind
+abbrev caseOf : KindsAnswer → ℕ
+caseOf (Letter x) = 0
+caseOf (Kind κ) = 1
+caseOf None = 2
+caseOf Several = 3
+
+abbrev valueOf : KindsAnswer → ℕ
+valueOf (Letter x) = x
+valueOf (Kind κ) = κ
+valueOf None = 0
+valueOf Several = 0
+
+answerBy : ℕ → ℕ → KindsAnswer
+answerBy zero x = Letter x
+answerBy (suc zero) x = Kind x
+answerBy (suc (suc zero)) x = None
+answerBy (suc (suc (suc n))) x = Several
+
+by-case : (v : KindsAnswer) → answerBy (caseOf v) (valueOf v) ≡ v
+unfolding answerBy
+by-case (Letter x) = refl
+by-case (Kind κ) = refl
+by-case None = refl
+by-case Several = refl
+
 abbrev sameAnswer : KindsAnswer → KindsAnswer → Bool
-sameAnswer (Letter x) (Letter y) = eqb x y
-sameAnswer (Kind x) (Kind y) = eqb x y
-sameAnswer None None = true
-sameAnswer Several Several = true
-sameAnswer (Letter x) (Kind y) = false
-sameAnswer (Letter x) None = false
-sameAnswer (Letter x) Several = false
-sameAnswer (Kind x) (Letter y) = false
-sameAnswer (Kind x) None = false
-sameAnswer (Kind x) Several = false
-sameAnswer None (Letter y) = false
-sameAnswer None (Kind y) = false
-sameAnswer None Several = false
-sameAnswer Several (Letter y) = false
-sameAnswer Several (Kind y) = false
-sameAnswer Several None = false
+sameAnswer v v′ = eqb (caseOf v) (caseOf v′) && eqb (valueOf v) (valueOf v′)
 
 same-answer : (v v′ : KindsAnswer) → sameAnswer v v′ ≡ true → v ≡ v′
-same-answer (Letter x) (Letter y) e = ap Letter (eqb-true x y e)
-same-answer (Kind x) (Kind y) e = ap Kind (eqb-true x y e)
-same-answer None None e = refl
-same-answer Several Several e = refl
-same-answer (Letter x) (Kind y) e = absurd (true-false e refl)
-same-answer (Letter x) None e = absurd (true-false e refl)
-same-answer (Letter x) Several e = absurd (true-false e refl)
-same-answer (Kind x) (Letter y) e = absurd (true-false e refl)
-same-answer (Kind x) None e = absurd (true-false e refl)
-same-answer (Kind x) Several e = absurd (true-false e refl)
-same-answer None (Letter y) e = absurd (true-false e refl)
-same-answer None (Kind y) e = absurd (true-false e refl)
-same-answer None Several e = absurd (true-false e refl)
-same-answer Several (Letter y) e = absurd (true-false e refl)
-same-answer Several (Kind y) e = absurd (true-false e refl)
-same-answer Several None e = absurd (true-false e refl)
+same-answer v v′ e =
+    let t = both-true (eqb (caseOf v) (caseOf v′)) (eqb (valueOf v) (valueOf v′)) e in
+    sym (by-case v) ∙ ap₂ answerBy (eqb-true _ _ (t .0)) (eqb-true _ _ (t .1)) ∙ by-case v′
 
 abbrev decodedKinds : List ℕ → List ℕ → ℕ → List ℕ → KindsAnswer
 decodedKinds f kinds b received = kindsAnswerOf (kindOf kinds) (fittingWord (coderOf f) (startsOf f 0) received b)
@@ -293,27 +293,7 @@ module _ (f : List ℕ) (z : fileRefusal f ≡ 0) where
 
 -- ---- the table
 
-abbrev testClaims : List ℕ → List Claim → Bool
-testClaims f [] = true
-testClaims f (c ∷ cs) = test f c && testClaims f cs
-
-abbrev testCases : List Case → Bool
-testCases [] = true
-testCases (c ∷ cs) = eqb (fileRefusal (c .file)) 0 && (testClaims (c .file) (c .claims) && testCases cs)
-
-claims-hold : (f : List ℕ) → fileRefusal f ≡ 0 → (cs : List Claim) → testClaims f cs ≡ true → AllHold f cs
-claims-hold f z [] e = tt
-claims-hold f z (c ∷ cs) e = let t = both-true (test f c) (testClaims f cs) e in (claim-holds f z c (t .0), claims-hold f z cs (t .1))
-
-cases-hold : (cs : List Case) → testCases cs ≡ true → AllCases cs
-cases-hold [] e = tt
-cases-hold (c ∷ cs) e =
-    let t = both-true (eqb (fileRefusal (c .file)) 0) (testClaims (c .file) (c .claims) && testCases cs) e in
-    let u = both-true (testClaims (c .file) (c .claims)) (testCases cs) (t .1) in
-    let z = eqb-true (fileRefusal (c .file)) 0 (t .0) in
-    (z, claims-hold (c .file) z (c .claims) (u .0), cases-hold cs (u .1))
-
-passed : testCases starredKinds ≡ true
+passed : testCases test starredKinds ≡ true
 unfolding test entriesWord imageWord inStepsWord startsWord allStarts listRefusal searchKindsRefusal windowKindsRefusal sidesRefusal
     leastTest laterOrFails worksTest agree allWords validTest closesTest allBelow someBelow named fileRefusal entriesRefusal inRange within
     entryInRange machineOf entryOf coderOf table tableAt fittingWord pass added add contribution gather unionOf answerOf leadingZeros
@@ -321,5 +301,5 @@ unfolding test entriesWord imageWord inStepsWord startsWord allStarts listRefusa
 passed = refl
 
 -- every worked example: its file is accepted, and all that is claimed of it holds
-pub starred-kinds-hold : AllCases starredKinds
-starred-kinds-hold = cases-hold starredKinds passed
+pub starred-kinds-hold : AllCases Holds starredKinds
+starred-kinds-hold = cases-hold test Holds claim-holds starredKinds passed

@@ -4,7 +4,6 @@
 use Prim.Native.Nat.{ℕ}
 use mathlib.Core.Path.{_≡_}
 use mathlib.Core.List.{List, [], _∷_}
-use Rattle.coder.specs.File.{fileRefusal}
 use Rattle.values.specs.Window.{window}
 use Rattle.search_kinds.specs.Search.{SearchKindsPromise}
 use Rattle.search_kinds.specs.declared.KindsVerdict.the-variants.{Cannot, Told}
@@ -15,6 +14,7 @@ use Rattle.window_kinds.specs.declared.KindsAnswer.{KindsAnswer}
 use Rattle.window_kinds.specs.declared.KindsAnswer.the-variants.{Letter, Kind, None, Several}
 use Rattle.window_kinds.specs.declared.WindowKindsResult.{WindowKindsResult}
 use Rattle.window_kinds.specs.declared.WindowKindsResult.the-variants.{Answered}
+use Rattle.theorems.specs.Cases.{Case}
 
 -- A looped pair of three letters: start states, and the bytes of the letters.
 pub record Evidence : Type 0 where
@@ -40,11 +40,7 @@ Holds f (cannot kinds pair) = (r : KindsResult) → SearchKindsPromise f kinds r
 Holds f (told kinds b a carried left) = (r : KindsResult) → SearchKindsPromise f kinds r → r ≡ Found (Told carried (window b a 0))
 Holds f (answer kinds b a received v) = (r : WindowKindsResult) → WindowKindsPromise f kinds b a received r → r ≡ Answered v
 
-pub record Case : Type 0 where
-  pub file : List ℕ
-  pub claims : List Claim
-
-abbrev pub starredKinds : List Case
+abbrev pub starredKinds : List (Case Claim)
 starredKinds =
     -- A, running parity
     record {
@@ -92,12 +88,3 @@ starredKinds =
           answer (0 ∷ 0 ∷ 1 ∷ 1 ∷ []) 0 0 (0 ∷ []) (Kind 0) ∷ answer (3 ∷ 1 ∷ 1 ∷ 1 ∷ []) 0 0 (0 ∷ []) Several ∷ [];
     } ∷
     []
-
--- The file is accepted and all its claims hold; and so for each case of a list.
-abbrev pub AllHold : List ℕ → List Claim → Type 0
-AllHold f [] = Unit {0}
-AllHold f (c ∷ cs) = Holds f c × AllHold f cs
-
-abbrev pub AllCases : List Case → Type 0
-AllCases [] = Unit {0}
-AllCases (c ∷ cs) = (fileRefusal (c .file) ≡ 0) × AllHold (c .file) (c .claims) × AllCases cs
