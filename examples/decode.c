@@ -13,66 +13,14 @@
 
    A message about an error goes to standard error. The exit status is 0; or 1 where a call refuses, where letters are to be decoded and
    there is no decoder, or where letters did not come back; or 2 where the command line, a file or a letter is wrong. */
-#include "lowhenita.h"
-
-#include <ctype.h>
-#include <errno.h>
-#include <stdio.h>
-#include <string.h>
-
-enum { MOST = 10000, DIGITS = 3 };
+#define HOST "decode"
+#include "host.h"
 
 /* What is lent to the calls. Static, so that every byte is 0 before the first call. */
-static uint8_t file[LOWHENITA_MAX_FILE_BYTES + 1];
+static uint8_t file[FILE_ROOM];
 static uint8_t pair[LOWHENITA_SEARCH_BYTES];
 static uint8_t result[LOWHENITA_RESULT_BYTES];
 static uint8_t letters[MOST], sent[MOST], decoded[MOST];
-
-static int fail(int status, const char *what, const char *why)
-{
-    fprintf(stderr, "decode: %s: %s\n", what, why);
-    return status;
-}
-
-static int refused(const char *call, size_t number)
-{
-    if (number != 0)
-        fprintf(stderr, "decode: %s: refused %lu: %s\n", call, (unsigned long)number, lowhenita_refusal_text(number));
-    return number != 0;
-}
-
-static int read_file(const char *name, size_t *len)
-{
-    FILE *f = fopen(name, "rb");
-    int error;
-
-    if (f == NULL)
-        return fail(2, name, strerror(errno));
-    *len = fread(file, 1, sizeof file, f);
-    error = ferror(f) ? errno : 0;
-    fclose(f);
-    if (error != 0)
-        return fail(2, name, strerror(error));
-    if (*len > LOWHENITA_MAX_FILE_BYTES)
-        return fail(2, name, "longer than a coder file can be");
-    return 0;
-}
-
-/* Appends the letter that a word stands for: 1 to 3 digits, at most 255. */
-static int add_letter(const char *word, size_t len, size_t *n)
-{
-    unsigned x = 0;
-    size_t k;
-
-    for (k = 0; k < len && k < DIGITS && isdigit((unsigned char)word[k]); k++)
-        x = 10 * x + (unsigned)(word[k] - '0');
-    if (len == 0 || k < len || x > 255)
-        return fail(2, "letters", "not a number from 0 to 255");
-    if (*n == MOST)
-        return fail(2, "letters", "more than there is room for");
-    letters[(*n)++] = (uint8_t)x;
-    return 0;
-}
 
 static int read_letters(FILE *f, size_t *n)
 {
@@ -86,45 +34,13 @@ static int read_letters(FILE *f, size_t *n)
             if (len < sizeof word)
                 word[len++] = (char)c;
         } else if (len > 0) {
-            status = add_letter(word, len, n);
+            status = add_byte("letters", word, len, letters, n);
             len = 0;
         }
     } while (c != EOF && status == 0);
     if (status == 0 && ferror(f))
         return fail(2, "standard input", strerror(errno));
     return status;
-}
-
-static int read_settle(const char *word, size_t *settle)
-{
-    const char *at;
-
-    *settle = 0;
-    for (at = word; isdigit((unsigned char)*at); at++) {
-        size_t digit = (size_t)(*at - '0');
-
-        if (*settle > (SIZE_MAX - digit) / 10)
-            break;
-        *settle = 10 * *settle + digit;
-    }
-    return at == word || *at != '\0' ? fail(2, "settle count", "not a number, or too large a one") : 0;
-}
-
-static void print_letters(const uint8_t *from, size_t n)
-{
-    size_t k;
-
-    for (k = 0; k < n; k++) {
-        if (k > 0)
-            putchar(' ');
-        if (from[k] == LOWHENITA_NONE)
-            putchar('-');
-        else if (from[k] == LOWHENITA_SEVERAL)
-            putchar('?');
-        else
-            printf("%d", from[k]);
-    }
-    putchar('\n');
 }
 
 static int decode_received(size_t file_len, size_t before, size_t after, size_t settle, size_t n)
@@ -144,9 +60,7 @@ static int run_and_decode(size_t file_len, size_t before, size_t after, size_t s
     if (settle > 0)
         printf("settle    %lu\n", (unsigned long)settle);
     printf("window    %lu %lu\n", (unsigned long)before, (unsigned long)after);
-    if (n == 0)
-        for (; n < 12; n++)
-            letters[n] = (uint8_t)(n * n / 3 % file[4]);
+    n = make_up(letters, n, file[4]);
     if (refused("run", lowhenita_run(file, file_len, 0, letters, n, sent, sizeof sent, result, sizeof result)))
         return 1;
     printf("input     ");
@@ -198,17 +112,15 @@ int main(int argc, char **argv)
         fprintf(stderr, "usage: decode [-s SETTLE] CODER-FILE [LETTER ...]\n       decode [-s SETTLE] -r CODER-FILE < RECEIVED\n");
         return 2;
     }
-    if (settling)
-        status = read_settle(argv[2], &settle);
+    if (settling && !read_count(argv[2], &settle))
+        status = fail(2, "settle count", "not a number, or too large a one");
     if (status == 0)
-        status = read_file(argv[first + receiving], &file_len);
+        status = read_file(argv[first + receiving], file, &file_len);
     if (receiving && status == 0)
         status = read_letters(stdin, &n);
     for (k = first + 1; !receiving && k < argc && status == 0; k++)
-        status = add_letter(argv[k], strlen(argv[k]), &n);
+        status = add_byte("letters", argv[k], strlen(argv[k]), letters, &n);
     if (status == 0)
         status = search_and_decode(receiving, file_len, settle, n);
-    if ((fflush(stdout) != 0 || ferror(stdout)) && status == 0)
-        status = fail(2, "standard output", strerror(errno));
-    return status;
+    return finish(status);
 }

@@ -10,14 +10,8 @@
 
    A message about an error goes to standard error. The exit status is 0; or 1 where a call refuses, or where letters or kinds did not
    come back; or 2 where the command line, a file, a kind or a letter is wrong. */
-#include "lowhenita.h"
-
-#include <ctype.h>
-#include <errno.h>
-#include <stdio.h>
-#include <string.h>
-
-enum { MOST = 10000, DIGITS = 3 };
+#define HOST "kinds"
+#include "host.h"
 
 /* What the search has found: the sides of the window, and the carried kinds, bit k for kind k. */
 typedef struct {
@@ -26,81 +20,23 @@ typedef struct {
 } found;
 
 /* What is lent to the calls. Static, so that every byte is 0 before the first call. */
-static uint8_t file[LOWHENITA_MAX_FILE_BYTES + 1];
+static uint8_t file[FILE_ROOM];
 static uint8_t result[LOWHENITA_RESULT_BYTES];
 static uint8_t kinds[MOST], letters[MOST], sent[MOST];
 
 /* Fields 0 and 1 for each window decoded. */
 static uint64_t answers[MOST], values[MOST];
 
-static int fail(int status, const char *what, const char *why)
-{
-    fprintf(stderr, "kinds: %s: %s\n", what, why);
-    return status;
-}
-
-static int refused(const char *call, size_t number)
-{
-    if (number != 0)
-        fprintf(stderr, "kinds: %s: refused %lu: %s\n", call, (unsigned long)number, lowhenita_refusal_text(number));
-    return number != 0;
-}
-
-static int read_file(const char *name, size_t *len)
-{
-    FILE *f = fopen(name, "rb");
-    int error;
-
-    if (f == NULL)
-        return fail(2, name, strerror(errno));
-    *len = fread(file, 1, sizeof file, f);
-    error = ferror(f) ? errno : 0;
-    fclose(f);
-    if (error != 0)
-        return fail(2, name, strerror(error));
-    if (*len > LOWHENITA_MAX_FILE_BYTES)
-        return fail(2, name, "longer than a coder file can be");
-    return 0;
-}
-
-/* Appends the letter or kind that a word stands for: 1 to 3 digits, at most 255. */
-static int add(const char *what, const char *word, size_t len, uint8_t *to, size_t *n)
-{
-    unsigned x = 0;
-    size_t k;
-
-    for (k = 0; k < len && k < DIGITS && isdigit((unsigned char)word[k]); k++)
-        x = 10 * x + (unsigned)(word[k] - '0');
-    if (len == 0 || k < len || x > 255)
-        return fail(2, what, "not a number from 0 to 255");
-    if (*n == MOST)
-        return fail(2, what, "more than there is room for");
-    to[(*n)++] = (uint8_t)x;
-    return 0;
-}
-
 static int read_kinds(const char *list, size_t *n)
 {
     for (;;) {
         size_t len = strcspn(list, ",");
-        int status = add("kinds", list, len, kinds, n);
+        int status = add_byte("kinds", list, len, kinds, n);
 
         if (status != 0 || list[len] == '\0')
             return status;
         list += len + 1;
     }
-}
-
-static void print_letters(const uint8_t *from, size_t n)
-{
-    size_t k;
-
-    for (k = 0; k < n; k++) {
-        if (k > 0)
-            putchar(' ');
-        printf("%d", from[k]);
-    }
-    putchar('\n');
 }
 
 static void print_carried(uint64_t carried)
@@ -167,9 +103,7 @@ static int run_and_decode(size_t file_len, size_t kinds_len, const found *w, siz
     printf("window    %lu %lu\n", (unsigned long)w->before, (unsigned long)w->after);
     printf("carried   ");
     print_carried(w->carried);
-    if (n == 0)
-        for (; n < 12; n++)
-            letters[n] = (uint8_t)(n * n / 3 % file[4]);
+    n = make_up(letters, n, file[4]);
     if (refused("run", lowhenita_run(file, file_len, 0, letters, n, sent, sizeof sent, result, sizeof result)))
         return 1;
     printf("input     ");
@@ -216,14 +150,12 @@ int main(int argc, char **argv)
         fprintf(stderr, "usage: kinds CODER-FILE KINDS [LETTER ...]\n");
         return 2;
     }
-    status = read_file(argv[1], &file_len);
+    status = read_file(argv[1], file, &file_len);
     if (status == 0)
         status = read_kinds(argv[2], &kinds_len);
     for (k = 3; k < argc && status == 0; k++)
-        status = add("letters", argv[k], strlen(argv[k]), letters, &n);
+        status = add_byte("letters", argv[k], strlen(argv[k]), letters, &n);
     if (status == 0)
         status = search_and_decode(file_len, kinds_len, n);
-    if ((fflush(stdout) != 0 || ferror(stdout)) && status == 0)
-        status = fail(2, "standard output", strerror(errno));
-    return status;
+    return finish(status);
 }

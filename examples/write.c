@@ -6,48 +6,15 @@
 
    All numbers are decimal. A message about an error goes to standard error, and nothing to standard output. The exit status is 0; or 1
    where the library refuses the coder; or 2 where the command line or standard output is wrong. */
-#include "lowhenita.h"
+#define HOST "write"
+#include "host.h"
 
-#include <ctype.h>
-#include <errno.h>
-#include <stdio.h>
-#include <string.h>
-
-enum { MOST = 1000 };
+enum { ENTRIES = 1000 };
 
 /* What is lent to the call. Static, so that every byte is 0 before it. */
-static uint8_t entries[2 * MOST];
+static uint8_t entries[2 * ENTRIES];
 static uint8_t file[LOWHENITA_MAX_FILE_BYTES];
 static uint8_t result[LOWHENITA_RESULT_BYTES];
-
-static int fail(int status, const char *what, const char *why)
-{
-    fprintf(stderr, "write: %s: %s\n", what, why);
-    return status;
-}
-
-/* Reads a number up to a limit; the place after its digits, or NULL where there is none. */
-static const char *read_number(const char *word, size_t limit, size_t *x)
-{
-    const char *at;
-
-    *x = 0;
-    for (at = word; isdigit((unsigned char)*at); at++) {
-        size_t digit = (size_t)(*at - '0');
-
-        if (digit > limit || *x > (limit - digit) / 10)
-            return NULL;
-        *x = 10 * *x + digit;
-    }
-    return at == word ? NULL : at;
-}
-
-static int read_count(const char *word, size_t *x)
-{
-    const char *at = read_number(word, SIZE_MAX, x);
-
-    return at != NULL && *at == '\0';
-}
 
 static int read_entry(const char *word, uint8_t *entry)
 {
@@ -74,7 +41,7 @@ int main(int argc, char **argv)
         if (!read_count(argv[1 + k], &counts[k]))
             return fail(2, argv[1 + k], "not a number, or too large a one");
     n = (size_t)argc - 4;
-    if (n > MOST)
+    if (n > ENTRIES)
         return fail(2, "entries", "more than there is room for");
     for (k = 0; k < n; k++)
         if (!read_entry(argv[4 + k], entries + 2 * k))
@@ -85,7 +52,7 @@ int main(int argc, char **argv)
         return 1;
     }
     len = (size_t)lowhenita_field(result, 0);
-    if (fwrite(file, 1, len, stdout) != len || fflush(stdout) != 0)
+    if (fwrite(file, 1, len, stdout) != len)
         return fail(2, "standard output", strerror(errno));
-    return 0;
+    return finish(0);
 }

@@ -627,12 +627,68 @@ static void least_window(const uint8_t worst[256], size_t *before, size_t *after
     }
 }
 
+/* Depths of the pairs of states, back and forward, for the start states of the settle count. */
+static void both_depths(coder *c, size_t settle, uint8_t back[16][16], uint8_t forward[16][16])
+{
+    uint8_t source[256];
+    size_t x;
+
+    for (x = 0; x < 256; x++)
+        source[x] = (uint8_t)(x / 16);
+    find_starts(c, settle);
+    depths(c, c->starts, c->next, source, back);
+    depths(c, c->reachable, source, c->next, forward);
+}
+
+/* Goes over the entries in the way: two of equal outputs and different letters, those of a kind that is not carried left out.
+   Those of letters of different kinds are counted in row 0 of worst, those of kind k in row 1 + k; without kinds, all in row 0.
+   Says whether two of row 0 are endless on both sides; a kind with two such is not carried. Compiled once with kinds and once
+   without, so that the search for letters has no test for them. */
+static inline __attribute__((always_inline)) int in_the_way(const coder *c, uint8_t back[16][16], uint8_t forward[16][16],
+                                                            const uint8_t *kinds, uint8_t worst[][256], size_t *carried)
+{
+    unsigned of[16] = {0};
+    size_t x, y, i, j, s, t, row;
+
+    for (i = 0; kinds && i < c->inputs; i++)
+        of[kinds[i]] |= 1u << i;
+    for (s = 0; s < c->states; s++)
+        for (i = 0; i < c->inputs; i++) {
+            unsigned others = 0xffff & ~(1u << i);
+
+            if (kinds && !(*carried >> kinds[i] & 1))
+                others &= ~of[kinds[i]];
+            x = 16 * s + i;
+            for (t = 0; t < c->states && others; t++) {
+                uint8_t b = back[s][t];
+
+                for (j = 0; j < c->inputs; j++) {
+                    uint8_t f;
+
+                    y = 16 * t + j;
+                    if (!(others >> j & 1) || c->out[x] != c->out[y])
+                        continue;
+                    f = forward[c->next[x]][c->next[y]];
+                    row = kinds && kinds[i] == kinds[j] ? 1 + (size_t)kinds[i] : 0;
+                    if (b == ENDLESS && f == ENDLESS) {
+                        if (!row)
+                            return 1;
+                        *carried &= ~((size_t)1 << kinds[i]);
+                    }
+                    if (worst[row][f] < b)
+                        worst[row][f] = b;
+                }
+            }
+        }
+    return 0;
+}
+
 size_t plain_search(const uint8_t *file, size_t file_len, size_t settle, uint8_t *letters, size_t letters_len,
                     plain_verdict *v)
 {
     coder c;
-    uint8_t back[16][16], forward[16][16], source[256], worst[256];
-    size_t x, y, i, j, s, t, r = read_coder(file, file_len, &c);
+    uint8_t back[16][16], forward[16][16], worst[1][256] = {{0}};
+    size_t r = read_coder(file, file_len, &c);
 
     if (r)
         return r;
@@ -640,35 +696,13 @@ size_t plain_search(const uint8_t *file, size_t file_len, size_t settle, uint8_t
         return 14;
     if (letters_len < 1026)
         return 11;
-    for (x = 0; x < 256; x++)
-        source[x] = (uint8_t)(x / 16);
-    find_starts(&c, settle);
-    depths(&c, c.starts, c.next, source, back);
-    depths(&c, c.reachable, source, c.next, forward);
-    memset(worst, 0, sizeof worst);
-    for (s = 0; s < c.states; s++)
-        for (i = 0; i < c.inputs; i++)
-            for (t = 0; t < c.states; t++) {
-                uint8_t b = back[s][t];
-
-                x = 16 * s + i;
-                for (j = 0; j < c.inputs; j++) {
-                    uint8_t f;
-
-                    y = 16 * t + j;
-                    if (i == j || c.out[x] != c.out[y])
-                        continue;
-                    f = forward[c.next[x]][c.next[y]];
-                    if (b == ENDLESS && f == ENDLESS) {
-                        find_pair(&c, letters, v);
-                        return 0;
-                    }
-                    if (worst[f] < b)
-                        worst[f] = b;
-                }
-            }
+    both_depths(&c, settle, back, forward);
+    if (in_the_way(&c, back, forward, NULL, worst, NULL)) {
+        find_pair(&c, letters, v);
+        return 0;
+    }
     v->is_pair = 0;
-    least_window(worst, &v->before, &v->after);
+    least_window(worst[0], &v->before, &v->after);
     return 0;
 }
 
@@ -677,51 +711,23 @@ size_t plain_search(const uint8_t *file, size_t file_len, size_t settle, uint8_t
 size_t plain_search_kinds(const uint8_t *file, size_t file_len, const uint8_t *kinds, size_t kinds_len, plain_kinds *v)
 {
     coder c;
-    uint8_t back[16][16], forward[16][16], source[256], worst[17][256]; /* 16: of different kinds; else by kind */
-    size_t x, y, i, j, s, t, k, r = read_coder(file, file_len, &c);
+    uint8_t back[16][16], forward[16][16], worst[17][256] = {{0}};
+    size_t x, k, r = read_coder(file, file_len, &c);
 
     if (r)
         return r;
     if (kinds_len != c.inputs || !below(kinds, kinds_len, c.inputs))
         return 16;
-    for (x = 0; x < 256; x++)
-        source[x] = (uint8_t)(x / 16);
-    find_starts(&c, 0);
-    depths(&c, c.starts, c.next, source, back);
-    depths(&c, c.reachable, source, c.next, forward);
-    memset(worst, 0, sizeof worst);
+    both_depths(&c, 0, back, forward);
     v->carried = ((size_t)1 << c.inputs) - 1;
-    for (s = 0; s < c.states; s++)
-        for (i = 0; i < c.inputs; i++)
-            for (t = 0; t < c.states; t++) {
-                uint8_t b = back[s][t];
-
-                x = 16 * s + i;
-                for (j = 0; j < c.inputs; j++) {
-                    uint8_t f;
-
-                    y = 16 * t + j;
-                    if (i == j || c.out[x] != c.out[y])
-                        continue;
-                    f = forward[c.next[x]][c.next[y]];
-                    k = kinds[i] == kinds[j] ? kinds[i] : 16;
-                    if (b == ENDLESS && f == ENDLESS) {
-                        if (k == 16) {
-                            v->told = 0;
-                            return 0;
-                        }
-                        v->carried &= ~((size_t)1 << k);
-                    }
-                    if (worst[k][f] < b)
-                        worst[k][f] = b;
-                }
-            }
+    v->told = !in_the_way(&c, back, forward, kinds, worst, &v->carried);
+    if (!v->told)
+        return 0;
     for (k = 0; k < 16; k++)
         for (x = 0; x < 256 && v->carried >> k & 1; x++)
-            if (worst[16][x] < worst[k][x])
-                worst[16][x] = worst[k][x];
-    v->told = 1;
-    least_window(worst[16], &v->before, &v->after);
+            if (worst[0][x] < worst[1 + k][x])
+                worst[0][x] = worst[1 + k][x];
+    least_window(worst[0], &v->before, &v->after);
     return 0;
 }
 

@@ -6,7 +6,9 @@
 
 /* ---- the search ---- */
 
-letter_pairs pairs_of_kinds(const coder *c, const uint8_t *kinds, size_t carried)
+/* The pairs of different letters of one kind that is in the set and, if asked for, of letters of
+   different kinds. */
+static letter_pairs pairs_apart(const coder *c, const uint8_t *kinds, size_t set, int across)
 {
     letter_pairs p;
     size_t i, j;
@@ -14,22 +16,19 @@ letter_pairs pairs_of_kinds(const coder *c, const uint8_t *kinds, size_t carried
     memset(&p, 0, sizeof p);
     for (i = 0; i < c->inputs; i++)
         for (j = 0; j < c->inputs; j++)
-            if (kinds[i] != kinds[j] || (i != j && carried >> kinds[i] & 1))
+            if (kinds[i] == kinds[j] ? i != j && set >> kinds[i] & 1 : across)
                 p.with[i] |= (uint16_t)(1u << j);
     return p;
 }
 
+letter_pairs pairs_of_kinds(const coder *c, const uint8_t *kinds, size_t carried)
+{
+    return pairs_apart(c, kinds, carried, 1);
+}
+
 letter_pairs pairs_within(const coder *c, const uint8_t *kinds, size_t kind)
 {
-    letter_pairs p;
-    size_t i, j;
-
-    memset(&p, 0, sizeof p);
-    for (i = 0; i < c->inputs; i++)
-        for (j = 0; j < c->inputs; j++)
-            if (i != j && kinds[i] == kind && kinds[j] == kind)
-                p.with[i] |= (uint16_t)(1u << j);
-    return p;
+    return pairs_apart(c, kinds, (size_t)1 << kind, 0);
 }
 
 /* Each kind below I by itself: a window of some size tells its letters apart. Where it has none, or

@@ -200,12 +200,9 @@ static size_t refusal_of_check(const arguments *a, const coder *c)
     return 0;
 }
 
-static size_t refusal_of_window(const arguments *a, const coder *c)
+/* What one window receives, letters decoded or kinds. */
+static size_t refusal_of_received(const arguments *a, const coder *c)
 {
-    if (sides_too_large(a))
-        return 8;
-    if (settle_too_large(a))
-        return 14;
     if (a->bytes_len != a->before + 1 + a->after)
         return 9;
     if (a->result_len < RESULT_BYTES)
@@ -213,6 +210,15 @@ static size_t refusal_of_window(const arguments *a, const coder *c)
     if (some_letter_from(a->bytes, a->bytes_len, c->outputs))
         return 13;
     return 0;
+}
+
+static size_t refusal_of_window(const arguments *a, const coder *c)
+{
+    if (sides_too_large(a))
+        return 8;
+    if (settle_too_large(a))
+        return 14;
+    return refusal_of_received(a, c);
 }
 
 static size_t refusal_of_table(const arguments *a, const coder *c)
@@ -246,13 +252,7 @@ static size_t refusal_of_window_kinds(const arguments *a, const coder *c)
         return 16;
     if (sides_too_large(a))
         return 8;
-    if (a->bytes_len != a->before + 1 + a->after)
-        return 9;
-    if (a->result_len < RESULT_BYTES)
-        return 11;
-    if (some_letter_from(a->bytes, a->bytes_len, c->outputs))
-        return 13;
-    return 0;
+    return refusal_of_received(a, c);
 }
 
 /* Document 02, 3/13 and 7/13: 4, 5 of the number of entry bytes, 6, 15, 11. */
