@@ -4,16 +4,16 @@ use mathlib.Core.Logic.{_↔_, _≢_, inl, inr, Dec·and, Dec·not}
 use mathlib.Core.Path.{_≡_}
 use Prim.Native.Nat.{ℕ}
 use native.Mathlib.Omega.{arith}
-use native.Mathlib.Decide.{ℕ-discrete, decLt, map-dec}
+use native.Mathlib.Decide.{ℕ-discrete, map-dec}
 use Rattle.mealy.specs.Setting.{Setting, Closed, Bounded}
 use Rattle.mealy.specs.Window.{Works}
 use Rattle.mealy.specs.Product.{back, forward, Settled, Ambiguous, pairs}
 use Rattle.mealy.proofs.Windows.{unambiguous→works, no-decoder}
 use Rattle.mealy.proofs.Decisions.{dec-ambiguous}
 use Rattle.mealy.proofs.Settling.{settled-by}
-use Rattle.kinds.specs.Kinds.{KindsBelow, DifferentKinds, DifferentWithin, DifferentCarried, telling, tellKinds, tellCarried}
-use Rattle.kinds.specs.Kinds.{SomeWindow, Carried, CarriedSet}
-use Rattle.kinds.proofs.Telling.{kinds→carried, unused-carried}
+use Rattle.kinds.specs.Kinds.{DifferentKinds, DifferentWithin, DifferentCarried, telling, tellKinds, tellCarried}
+use Rattle.kinds.specs.Kinds.{SomeWindow, Carried}
+use Rattle.kinds.proofs.Telling.{kinds→carried}
 
 -- An edge on letters that D tells apart, between the levels K and L. Which letters conflict has no part in the levels, so those of
 -- `telling S D` are those of S itself.
@@ -41,15 +41,6 @@ module _ (S : Setting) (closed : Closed S) (K L : ℕ) (settledK : Settled S bac
       Works (tellCarried S kind C) K L
   settled-carried kind w C f =
       kinds→carried S kind C K L (window→settled (DifferentKinds kind) w) (λ κ h. window→settled (DifferentWithin kind κ) (f κ h))
-
--- the numbers of C from I on are kinds of no letter
-pub carried-set :
-    (S : Setting) (kind : ℕ → ℕ) → KindsBelow (S .M .inputs) kind → (C : ℕ → Type 0) → CarriedSet S kind C → (κ : ℕ) → C κ →
-    Carried S kind κ
-carried-set S kind below C set κ h = elim (decLt κ (S .M .inputs)) [
-  | yes l ↦ set κ l .0 h
-  | no l ↦ unused-carried S kind κ (λ i p e. let q = below i p in omega arith)
-]
 
 -- ---- decisions
 

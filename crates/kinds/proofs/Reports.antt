@@ -10,7 +10,7 @@ use Rattle.mealy.specs.Order.{Relation, IsOrder, Least}
 use Rattle.mealy.specs.Product.{Direction, back, forward, Settled, pairs}
 use Rattle.mealy.proofs.LeastWindows.{least-unique, least-exists, least-sides}
 use Rattle.mealy.proofs.Settling.{settled-by}
-use Rattle.kinds.specs.Kinds.{KindsBelow, DifferentCarried, tellLetters, tellKinds, tellCarried}
+use Rattle.kinds.specs.Kinds.{KindsBelow, DifferentCarried, tellLetters, tellCarried}
 use Rattle.kinds.specs.Kinds.{Carried, Cannot, CarriedSet, Found}
 use Rattle.kinds.proofs.Telling.{Included, least-included, carried→kinds, letters-carried, least-every}
 use Rattle.kinds.proofs.CarriedKinds.{settled-carried, dec-carried, dec-can, dec-carried-different}

@@ -12,7 +12,6 @@ use Rattle.coder.specs.Refusal.{upon}
 use Rattle.coder.specs.File.{settingAfter}
 use Rattle.values.specs.Order.{defaultOrder}
 use Rattle.values.specs.Window.{window}
-use Rattle.values.specs.declared.Window.{Window}
 use Rattle.values.proofs.Orders.{is-order}
 use Rattle.kinds.specs.Kinds.{tellCarried}
 use Rattle.kinds.proofs.Reports.{found-can}

@@ -8,16 +8,15 @@ use native.Mathlib.Numerals.{add-one}
 use native.Mathlib.Omega.{arith}
 use lib.Bits.{bitOr}
 use Rattle.mealy.specs.Word.{Has, Holds}
-use Rattle.mealy.specs.Setting.{Setting}
 use Rattle.mealy.proofs.StartStates.{after-closed, after-bounded, dec-start-after}
 use Rattle.mealy.proofs.Members.{holds-member}
 use Rattle.coder.specs.File.{machineOf, settingAfter}
 use Rattle.coder.proofs.Accepted.{accepted}
 use Rattle.coder.proofs.Tables.{total, some-state}
-use Rattle.values.specs.Order.{relationOf, defaultOrder}
+use Rattle.values.specs.Order.{defaultOrder}
 use Rattle.values.specs.Window.{window}
 use Rattle.values.proofs.Orders.{is-order}
-use Rattle.kinds.specs.Kinds.{Carried, CarriedSet}
+use Rattle.kinds.specs.Kinds.{CarriedSet}
 use Rattle.kinds.proofs.CarriedKinds.{dec-carried}
 use Rattle.kinds.proofs.Reports.{cannot-or-found, found-set, found-sides}
 use Rattle.kind_list.specs.KindList.{kindOf}

@@ -15,7 +15,6 @@ use Rattle.mealy.proofs.Members.{holds-member}
 use Rattle.mealy.proofs.Windows.{works→unambiguous}
 use Rattle.mealy.proofs.Settling.{settled-by}
 use Rattle.mealy.proofs.SameSettings.{works-same, least-same, same-sym}
-use Rattle.coder.specs.Refusal.{Judges}
 use Rattle.coder.specs.Table.{machineOfCoder, Sound}
 use Rattle.coder.specs.declared.inner.tables.Coder.{Coder}
 use Rattle.coder.proofs.Judging.{judges-yes, judges-not}
@@ -29,7 +28,7 @@ use Rattle.least.specs.Report.{DepthsOf, LeastGiven}
 use Rattle.least.specs.declared.LeastWindow.{LeastWindow}
 use Rattle.least.specs.declared.LeastWindow.the-variants.{None, Some}
 use Rattle.kinds.specs.Kinds.{DifferentWithin, DifferentCarried}
-use Rattle.kinds.proofs.Telling.{carried→kinds, single-carried}
+use Rattle.kinds.proofs.Telling.{single-carried}
 use Rattle.kinds.proofs.CarriedKinds.{settled-carried}
 use Rattle.search_kinds.specs.Letters.{OfKind}
 use Rattle.search_kinds.specs.Tries.{started, LeastTold, SomeTold, CarriedGiven}

@@ -7,7 +7,6 @@ use Prim.Native.Nat.{ℕ, zero, suc, _+_, _≤_, _<_}
 use native.Mathlib.Omega.{arith}
 use lib.Dec.{lit<}
 use lib.ListN.{length, getD, take, drop}
-use Rattle.mealy.specs.Answer.{Fits}
 use Rattle.mealy.specs.Word.{Has}
 use Rattle.mealy.proofs.Letters.{letter-at}
 use Rattle.coder.specs.Refusal.{upon}

@@ -20,7 +20,7 @@ use Rattle.mealy.proofs.LoopedPairs.{excludes}
 use Rattle.mealy.proofs.Members.{holds-member}
 use Rattle.coder.specs.Refusal.{Judges, allBelow, someBelow}
 use Rattle.coder.specs.Alphabet.{named}
-use Rattle.coder.specs.File.{within, inRange, entryInRange, entriesRefusal, fileRefusal, entryOf, inputsOf, machineOf, settingAfter}
+use Rattle.coder.specs.File.{within, inRange, entryInRange, entriesRefusal, fileRefusal, entryOf, machineOf, settingAfter}
 use Rattle.coder.specs.Table.{table, coderOf, tableAt}
 use Rattle.coder.proofs.Refusals.{true-false, both-true, all-at}
 use Rattle.coder.proofs.Judging.{judges-yes, judges-not}

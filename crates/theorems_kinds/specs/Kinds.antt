@@ -20,7 +20,7 @@ use Rattle.search.specs.Search.{SearchPromise}
 use Rattle.search_host.specs.Laid.{SearchFromHost}
 use Rattle.search.specs.declared.Verdict.the-variants.{Least}
 use Rattle.search.specs.declared.SearchResult as search-result
-use Rattle.kinds.specs.Kinds.{tellKinds, tellOne, tellCarried, Carried, Leaves}
+use Rattle.kinds.specs.Kinds.{tellKinds, tellOne, Carried, Leaves}
 use Rattle.kinds.specs.KindsAnswer as theory
 use Rattle.kinds.specs.KindsAnswer.{KindsAnswers, Yields}
 use Rattle.kind_list.specs.KindList.{kindOf}

@@ -1,5 +1,4 @@
 -- `apart` meets its contract: the letters of the same kind, and those of other kinds besides.
-use mathlib.Core.Bool.{true, false}
 use borrow.Author.Needs.{needs}
 use denote.Ref.{now}
 use Rattle.mealy.specs.Word.{Has}

@@ -3,7 +3,6 @@ use mathlib.Core.Path.{_≡_, sym, _∙_}
 use Prim.Native.Nat.{_≤_, _<_, _-_}
 use borrow.Author.Needs.{needs}
 use native.Mathlib.Omega.{arith}
-use denote.Ref.{now}
 use Rattle.mealy.specs.Word.{Holds}
 use Rattle.kind_list.specs.KindList.{kindOf}
 use Rattle.search_kinds.proofs.Apart.{held-none, held-more, held-less}

@@ -1,6 +1,5 @@
 -- `same_kind` meets its contract: the letters of the kind without i, or none.
 use borrow.Author.Needs.{needs}
-use native.Mathlib.Omega.{arith}
 use denote.Ref.{now}
 use Rattle.mealy.specs.Word.{Has}
 use Rattle.kind_list.specs.KindList.{kindOf}

@@ -1,5 +1,5 @@
 -- `carries` meets its contract: a kind with no two letters is carried, any other where there is a window for it.
-use mathlib.Core.Path.{_≡_, sym, _∙_}
+use mathlib.Core.Path.{sym, _∙_}
 use borrow.Author.Needs.{needs}
 use denote.Ref.{now}
 use Rattle.kind_list.specs.KindList.{kindOf}
