@@ -8,6 +8,10 @@
        decodes the received letters of standard input, decimal numbers with white space between them, and prints one line: for each
        place that has a full window the letter, - where no run gives that window, ? where several letters fit.
 
+   decode [-s SETTLE] -f CODER-FILE < RECEIVED
+       the same, and then a line for each place where no run gives the window: how many letters of the window, from its first on, some
+       run can produce.
+
    SETTLE is the settle count of the window, 0 to 64, 0 where none is given. The first SETTLE letters decoded are printed like the others,
    but need not be those that were sent.
 
@@ -43,14 +47,31 @@ static int read_letters(FILE *f, size_t *n)
     return status;
 }
 
-static int decode_received(size_t file_len, size_t before, size_t after, size_t settle, size_t n)
+/* For each of the decoded places where no run gives the window, how far it was possible. */
+static int print_far(size_t file_len, size_t before, size_t after, size_t settle, size_t count)
+{
+    size_t size = before + 1 + after, k;
+
+    for (k = 0; k < count; k++) {
+        if (decoded[k] != LOWHENITA_NONE)
+            continue;
+        if (refused("window", lowhenita_window(file, file_len, before, after, settle, letters + k, size, result, sizeof result)))
+            return 1;
+        printf("place %lu: %lu of %lu letters possible\n", (unsigned long)(before + k), (unsigned long)lowhenita_field(result, 1),
+               (unsigned long)size);
+    }
+    return 0;
+}
+
+static int decode_received(int far, size_t file_len, size_t before, size_t after, size_t settle, size_t n)
 {
     size_t refusal = lowhenita_decode(file, file_len, before, after, settle, letters, n, decoded, sizeof decoded, result, sizeof result);
+    size_t count = (size_t)lowhenita_field(result, 0);
 
     if (refused("decode", refusal))
         return 1;
-    print_letters(decoded, (size_t)lowhenita_field(result, 0));
-    return 0;
+    print_letters(decoded, count);
+    return far ? print_far(file_len, before, after, settle, count) : 0;
 }
 
 static int run_and_decode(size_t file_len, size_t before, size_t after, size_t settle, size_t n)
@@ -82,7 +103,7 @@ static int run_and_decode(size_t file_len, size_t before, size_t after, size_t s
     return 0;
 }
 
-static int search_and_decode(int receiving, size_t file_len, size_t settle, size_t n)
+static int search_and_decode(int receiving, int far, size_t file_len, size_t settle, size_t n)
 {
     size_t before, after;
 
@@ -98,18 +119,19 @@ static int search_and_decode(int receiving, size_t file_len, size_t settle, size
     }
     before = (size_t)lowhenita_field(result, 1);
     after = (size_t)lowhenita_field(result, 2);
-    return receiving ? decode_received(file_len, before, after, settle, n) : run_and_decode(file_len, before, after, settle, n);
+    return receiving ? decode_received(far, file_len, before, after, settle, n) : run_and_decode(file_len, before, after, settle, n);
 }
 
 int main(int argc, char **argv)
 {
     int settling = argc > 1 && strcmp(argv[1], "-s") == 0, first = settling ? 3 : 1; /* the first word after -s SETTLE */
-    int receiving = argc > first && strcmp(argv[first], "-r") == 0;
+    int far = argc > first && strcmp(argv[first], "-f") == 0, receiving = far || (argc > first && strcmp(argv[first], "-r") == 0);
     size_t file_len = 0, settle = 0, n = 0;
     int status = 0, k;
 
     if (receiving ? argc != first + 2 : argc <= first) {
-        fprintf(stderr, "usage: decode [-s SETTLE] CODER-FILE [LETTER ...]\n       decode [-s SETTLE] -r CODER-FILE < RECEIVED\n");
+        fprintf(stderr, "usage: decode [-s SETTLE] CODER-FILE [LETTER ...]\n       decode [-s SETTLE] -r CODER-FILE < RECEIVED\n"
+                        "       decode [-s SETTLE] -f CODER-FILE < RECEIVED\n");
         return 2;
     }
     if (settling && !read_count(argv[2], &settle))
@@ -121,6 +143,6 @@ int main(int argc, char **argv)
     for (k = first + 1; !receiving && k < argc && status == 0; k++)
         status = add_byte("letters", argv[k], strlen(argv[k]), letters, &n);
     if (status == 0)
-        status = search_and_decode(receiving, file_len, settle, n);
+        status = search_and_decode(receiving, far, file_len, settle, n);
     return finish(status);
 }

@@ -43,7 +43,7 @@ extern "C" {
 #endif
 
 /* The version of this header and of the library; make and pkg-config take it from here. */
-#define LOWHENITA_VERSION "1.8"
+#define LOWHENITA_VERSION "1.9"
 
 /* Limits of a coder: states, input letters, output letters; the bytes of its file. */
 #define LOWHENITA_MAX_STATES 16
@@ -211,7 +211,9 @@ size_t lowhenita_check(const uint8_t *file, size_t file_len,
 
 /*
  * Decodes one window of before + 1 + after received letters; the `settle` letters ahead of it are not given.
- * Field 0: the letter that alone fits, LOWHENITA_NONE or LOWHENITA_SEVERAL.
+ * Field 0: the letter that alone fits, LOWHENITA_NONE where no run gives these letters, or LOWHENITA_SEVERAL.
+ * Field 1, with LOWHENITA_NONE alone: how many of the letters, from the first on, some run can produce, 0 to before + after, whichever of
+ * them is the present one. With any other answer field 1 stays as it was.
  * Refusals, in checking order: 1 to 6, 15, 8, 14, 9 (received_len is not before + 1 + after), 11 (result), 13.
  */
 size_t lowhenita_window(const uint8_t *file, size_t file_len,

@@ -81,6 +81,18 @@ static size_t do_plain_decode(void)
                         &plain_count);
 }
 
+static size_t do_window(void)
+{
+    return lowhenita_window(file.bytes, file.len, before, after, settle, sent, before + 1 + after, result, sizeof result);
+}
+
+static size_t plain_letter, plain_far;
+
+static size_t do_plain_window(void)
+{
+    return plain_window(file.bytes, file.len, before, after, settle, sent, before + 1 + after, &plain_letter, &plain_far);
+}
+
 static size_t do_table(void)
 {
     return lowhenita_table(file.bytes, file.len, before, after, settle, mine, sizeof mine, result, sizeof result);
@@ -200,35 +212,83 @@ static void bench_search(const char *name)
     compare(name, do_search, do_plain_search, 0);
 }
 
-static void bench_string(const char *name, size_t b, size_t a, size_t n)
+/* What the coder sends on n random letters. */
+static void send(const char *name, size_t n)
 {
     size_t k;
 
-    before = b;
-    after = a;
     letters = n;
     for (k = 0; k < n; k++)
         input[k] = (uint8_t)random_below(file.bytes[4]);
     if (do_run() != 0 || do_plain_run() != 0 || memcmp(mine, theirs, n) != 0 || field(1) != plain_end)
         unequal(name);
     memcpy(sent, mine, n);
+}
+
+/* Every so many letters one is drawn anew; 0: none. */
+static void bench_damaged(const char *name, size_t b, size_t a, size_t n, size_t every)
+{
+    size_t k;
+
+    before = b;
+    after = a;
+    send(name, n);
+    for (k = 0; every > 0 && k < n; k += every)
+        sent[k] = (uint8_t)random_below(file.bytes[5]);
     if (do_decode() != 0 || do_plain_decode() != 0 || field(0) != plain_count ||
         memcmp(mine, theirs, plain_count) != 0)
         unequal(name);
     compare(name, do_decode, do_plain_decode, n);
 }
 
-/* A coded string with windows of each shape. */
-static void bench_strings(const char *coder)
+static void bench_string(const char *name, size_t b, size_t a, size_t n)
 {
-    static const size_t sides[][2] = {{1, 0}, {2, 0}, {8, 0}, {60, 0}, {2, 2}, {8, 8}, {0, 60}};
-    char name[100];
+    bench_damaged(name, b, a, n, 0);
+}
+
+static const size_t sides[][2] = {{1, 0}, {2, 0}, {8, 0}, {60, 0}, {2, 2}, {8, 8}, {0, 60}};
+
+/* A coded string with windows of each shape; with letters drawn anew, 0: none. */
+static void bench_strings(const char *coder, const char *damage, size_t every)
+{
+    char name[120];
     size_t k;
 
     for (k = 0; k < sizeof sides / sizeof *sides; k++) {
-        sprintf(name, "string: %s, window %lu %lu", coder, (unsigned long)sides[k][0], (unsigned long)sides[k][1]);
-        bench_string(name, sides[k][0], sides[k][1], LETTERS);
+        sprintf(name, "string: %s, window %lu %lu%s", coder, (unsigned long)sides[k][0], (unsigned long)sides[k][1], damage);
+        bench_damaged(name, sides[k][0], sides[k][1], LETTERS, every);
     }
+}
+
+/* One window of a coded string, and one whose letter at a place no run gives after those before it: a letter is looked
+   for, and where there is none the last one tried stays. */
+static void bench_window(const char *name, size_t b, size_t a, size_t place)
+{
+    size_t n = b + 1 + a, o = 0;
+
+    before = b;
+    after = a;
+    send(name, n);
+    do {
+        if (place < n)
+            sent[place] = (uint8_t)o;
+        if (do_window() != 0 || do_plain_window() != 0 || field(0) != plain_letter ||
+            (plain_letter == 254 && field(1) != plain_far))
+            unequal(name);
+    } while (place < n && (plain_letter != 254 || plain_far != place) && ++o < file.bytes[5]);
+    if (plain_letter == 254)
+        printf("  (none with %lu)\n", (unsigned long)plain_far);
+    compare(name, do_window, do_plain_window, 0);
+}
+
+static void bench_windows(void)
+{
+    bench_window("window: 16 states, 64 outputs, 3 2", 3, 2, 6);
+    bench_window("window: the same, no run from its first letters on", 3, 2, 2);
+    bench_window("window: the same, no run with its last letter", 3, 2, 5);
+    bench_window("window: 16 states, 64 outputs, 136 136", 136, 136, 273);
+    bench_window("window: the same, no run from its first letters on", 136, 136, 2);
+    bench_window("window: the same, no run with its last letter", 136, 136, 272);
 }
 
 static void bench_run(const char *name)
@@ -571,20 +631,24 @@ int main(void)
 
     example_a();
     bench_run("run: A, 20,000 letters");
-    bench_strings("A");
+    bench_strings("A", "", 0);
     bench_table("table: A, 65,536 bytes", 8, 7);
     bench_write("write: A, 14 bytes");
     any_coder(16, 16, 64);
     bench_run("run: 16 states, 16 inputs, 64 outputs, 20,000 letters");
-    bench_strings("16 states, 16 inputs, 64 outputs");
+    bench_strings("16 states, 16 inputs, 64 outputs", "", 0);
     bench_write("write: 16 states, 16 inputs, 64 outputs, 518 bytes");
     any_coder(16, 16, 16);
     bench_table("table: 16 states, 16 inputs, 16 outputs, 65,536 bytes", 2, 1);
     any_coder(16, 16, 4);
-    bench_strings("16 states, 16 inputs, 4 outputs");
+    bench_strings("16 states, 16 inputs, 4 outputs", "", 0);
     bench_table("table: 16 states, 16 inputs, 4 outputs, 65,536 bytes", 4, 3);
     bench_all_pairs();
     bench_settle();
     bench_all_kinds();
+    any_coder(16, 16, 64);
+    bench_strings("16 states, 64 outputs", ", every 16th letter anew", 16);
+    bench_strings("16 states, 64 outputs", ", every letter anew", 1);
+    bench_windows();
     return 0;
 }

@@ -243,6 +243,45 @@ size_t plain_decode(const uint8_t *file, size_t file_len, size_t before, size_t 
     return 0;
 }
 
+/* How many letters, from the first on, lead to some state from the start states. */
+static size_t how_far(const coder *c, const sets *d, const uint8_t *w, size_t n)
+{
+    unsigned f = c->starts;
+    size_t k;
+
+    for (k = 0; k < n; k++) {
+        f = image(d->to[w[k]], f);
+        if (!f)
+            break;
+    }
+    return k;
+}
+
+size_t plain_window(const uint8_t *file, size_t file_len, size_t before, size_t after, size_t settle,
+                    const uint8_t *received, size_t received_len, size_t *result, size_t *far)
+{
+    coder c;
+    sets d;
+    size_t r = read_coder(file, file_len, &c);
+
+    if (r)
+        return r;
+    if (before > 136 || after > 136)
+        return 8;
+    if (settle > 64)
+        return 14;
+    if (received_len != before + 1 + after)
+        return 9;
+    if (!below(received, received_len, c.outputs))
+        return 13;
+    find_starts(&c, settle);
+    make_sets(&c, &d);
+    *result = decode_window(&c, &d, received, before, after);
+    if (*result == 254)
+        *far = how_far(&c, &d, received, received_len);
+    return 0;
+}
+
 /* The table, letter by letter, so that windows that begin alike share the work: one set of states before the
    present letter; after it, for each state of a set, the letters at the present place of the runs that end there.
    A part that no run gives is filled at once. */

@@ -12,6 +12,9 @@ size_t plain_run(const uint8_t *file, size_t file_len, size_t start, const uint8
 size_t plain_decode(const uint8_t *file, size_t file_len, size_t before, size_t after, size_t settle,
                     const uint8_t *received, size_t received_len, uint8_t *output,
                     size_t output_len, size_t *count);
+/* *answer becomes the letter, 254 or 255; with 254 *far becomes the letters that were possible. */
+size_t plain_window(const uint8_t *file, size_t file_len, size_t before, size_t after, size_t settle,
+                    const uint8_t *received, size_t received_len, size_t *answer, size_t *far);
 size_t plain_table(const uint8_t *file, size_t file_len, size_t before, size_t after, size_t settle,
                    uint8_t *table, size_t table_len, size_t *count);
 

@@ -108,7 +108,9 @@ static void check(void)
 
 static void window(void)
 {
-    static const uint8_t received[] = {0, 1};
+    static const uint8_t received[] = {0, 1}, one_two[] = {1, 2}, four[] = {4};
+    static const uint8_t long_window[] = {4, 0, 1, 2};
+    uint8_t before_call[64];
 
     HOLDS(lowhenita_window(a, sizeof a, 1, 0, 0, received, 2, result, 64) == 0);
     HOLDS(lowhenita_field(result, 0) == 1);
@@ -116,6 +118,17 @@ static void window(void)
     HOLDS(lowhenita_field(result, 0) == LOWHENITA_SEVERAL);
     HOLDS(lowhenita_window(g, sizeof g, 0, 0, 2, received, 1, result, 64) == 0);
     HOLDS(lowhenita_field(result, 0) == 0);
+
+    HOLDS(lowhenita_window(g, sizeof g, 0, 1, 0, one_two, 2, result, 64) == 0);
+    HOLDS(lowhenita_field(result, 0) == LOWHENITA_NONE && lowhenita_field(result, 1) == 1);
+    HOLDS(lowhenita_window(g, sizeof g, 1, 2, 0, long_window, 4, result, 64) == 0);
+    HOLDS(lowhenita_field(result, 0) == LOWHENITA_NONE && lowhenita_field(result, 1) == 3);
+    HOLDS(lowhenita_window(g, sizeof g, 0, 0, 2, four, 1, result, 64) == 0);
+    HOLDS(lowhenita_field(result, 0) == LOWHENITA_NONE && lowhenita_field(result, 1) == 0);
+    memset(result, 7, sizeof result);
+    memcpy(before_call, result, sizeof result);
+    HOLDS(lowhenita_window(g, sizeof g, 0, 0, 0, four, 1, result, 64) == 0);
+    HOLDS(lowhenita_field(result, 0) == 0 && memcmp(result + 8, before_call + 8, 56) == 0);
 }
 
 static void kinds(void)

@@ -5,11 +5,12 @@
 
 #include <stdio.h>
 #include <stdlib.h>
+#include <string.h>
 
 enum { STRING = 100, ROOM = 3000 };
 
 static uint8_t *bytes, *result;
-static unsigned long zeros;
+static unsigned long zeros, nones;
 
 /* New buffers for one call. */
 static void lend(void)
@@ -40,8 +41,10 @@ static void look(size_t refusal, size_t written, size_t fields)
 static void all_calls(const uint8_t *file, size_t len, size_t settle, size_t past)
 {
     static const uint8_t letters[STRING], kinds[LOWHENITA_MAX_INPUTS] = {0, 0, 1, 1, 2, 2, 3, 3, 4, 4, 5, 5, 6, 6, 7, 7};
+    uint8_t last[8];
     size_t refusal, n = 0, k;
 
+    memset(last, file[5] - 1, sizeof last);
     lend();
     look(lowhenita_run(file, len, 0, letters, STRING, bytes, ROOM, result, LOWHENITA_RESULT_BYTES), STRING, 2);
     lend();
@@ -56,6 +59,10 @@ static void all_calls(const uint8_t *file, size_t len, size_t settle, size_t pas
     look(lowhenita_check(file, len, 0, 0, 1, 0, 0, 1, letters, 6, result, LOWHENITA_RESULT_BYTES), 0, 1);
     lend();
     look(lowhenita_window(file, len, 3, 4, settle, letters, 8, result, LOWHENITA_RESULT_BYTES), 0, 1);
+    lend();
+    refusal = lowhenita_window(file, len, 3, 4, settle, last, 8, result, LOWHENITA_RESULT_BYTES);
+    look(refusal, 0, lowhenita_field(result, 0) == LOWHENITA_NONE ? 2 : 1);
+    nones += lowhenita_field(result, 0) == LOWHENITA_NONE;
     lend();
     refusal = lowhenita_search_kinds(file, len, kinds, file[4], result, LOWHENITA_RESULT_BYTES);
     look(refusal, 0, lowhenita_field(result, 0) == LOWHENITA_KINDS_TOLD ? 4 : 1);
@@ -89,6 +96,8 @@ int main(int argc, char **argv)
     all_calls(f.bytes, f.len, LOWHENITA_MAX_SETTLE, argc > 1);
     free(bytes);
     free(result);
+    if (nones == 0)
+        return 1;
     printf("%lu\n", zeros);
     return 0;
 }

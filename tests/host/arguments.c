@@ -34,6 +34,14 @@ size_t power(size_t base, size_t n)
     return value;
 }
 
+void put_digits(uint8_t *bytes, size_t n, size_t base, size_t number)
+{
+    size_t k;
+
+    for (k = 0; k < n; k++, number /= base)
+        bytes[k] = (uint8_t)(number % base);
+}
+
 void random_letters(size_t n, size_t limit)
 {
     size_t k;

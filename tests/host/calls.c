@@ -72,10 +72,11 @@ void same_reply(const arguments *a, const arguments *b)
 {
     static uint8_t bytes[LENT_ROOM];
     reply got = compare(a);
-    size_t returned = got.returned, count = 0, first = 0;
+    size_t returned = got.returned, count = 0, first = 0, second = 0;
 
     if (returned == 0) {
         first = get_field(got.result, 0);
+        second = get_field(got.result, 1);
         count = a->call == CALL_DECODE || a->call == CALL_TABLE ? first : 0;
         if (count > a->lent_len)
             return; /* a difference, and counted as one */
@@ -86,6 +87,8 @@ void same_reply(const arguments *a, const arguments *b)
     if (returned != 0 || got.returned != 0)
         return;
     known_value("field 0 of the second call", get_field(got.result, 0), first);
+    if (a->call == CALL_WINDOW && first == BYTE_NONE)
+        known_value("field 1 of the second call", get_field(got.result, 1), second);
     known_value("the bytes of the second call", (size_t)memcmp(bytes, got.lent, count), 0);
 }
 
@@ -179,15 +182,6 @@ void compare_both_ways(const coder_file *f, size_t settle, size_t most)
 }
 
 /* ---- all arguments of small size ---- */
-
-/* The number to base `base` with n digits, lowest first. */
-static void put_digits(uint8_t *bytes, size_t n, size_t base, size_t number)
-{
-    size_t k;
-
-    for (k = 0; k < n; k++, number /= base)
-        bytes[k] = (uint8_t)(number % base);
-}
 
 void all_runs(const coder_file *f, size_t most)
 {

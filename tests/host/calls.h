@@ -25,6 +25,9 @@ void random_letters(size_t n, size_t limit);
 void random_kinds(size_t n);
 size_t power(size_t base, size_t n);
 
+/* The number to base `base` with n digits, lowest first. */
+void put_digits(uint8_t *bytes, size_t n, size_t base, size_t number);
+
 /* A settle count that a call takes: mostly a small one, at times 0, 15, 64 or any. */
 size_t random_settle(void);
 
@@ -58,7 +61,7 @@ void with_file_faults(const arguments *a, const coder_file *f, size_t faults,
                       void (*visit)(const arguments *a, size_t number));
 
 /* Two calls with the same letters and as long buffers: the number returned, field 0 and, of a string
-   or table, the bytes that it counts are the same. */
+   or table, the bytes that it counts are the same; of a single window that no run gives, field 1. */
 void same_reply(const arguments *a, const arguments *b);
 
 void compare_random(enum call call, const coder_file *f);

@@ -207,37 +207,63 @@ void text_writer_refused(const size_t counts[3], const uint8_t *entries, size_t 
     put_buffer(lent, NULL, 0);
 }
 
-static void put_call_for_kinds(const arguments *a)
+/* ---- calls that are lent no buffer ---- */
+
+static void put_call_on(const arguments *a)
 {
-    if (a->call == CALL_SEARCH_KINDS) {
+    switch (a->call) {
+    case CALL_SEARCH_KINDS:
         put("kinds on");
         put_list(a->kinds, a->kinds_len);
-    } else {
+        break;
+    case CALL_WINDOW_KINDS:
         put("decode_kinds %zu %zu by", a->before, a->after);
         put_list(a->kinds, a->kinds_len);
         put(" on");
+        put_list(a->bytes, a->bytes_len);
+        break;
+    default:
+        put("window %zu %zu %zu on", a->before, a->after, a->settle);
         put_list(a->bytes, a->bytes_len);
     }
     put(" = ");
     count_case();
 }
 
-static void put_answer_for_kinds(enum call call, const uint8_t *result)
+static void put_kinds_told(const uint8_t *result)
 {
-    static const char *const words[KINDS_ANSWERS] = {"letter %zu\n", "kind %zu\n", "none\n",
-                                                     "several\n"};
-    size_t first = get_field(result, 0), number = get_field(result, 1);
-
-    if (call == CALL_WINDOW_KINDS)
-        put(words[first], number);
-    else if (first == 0)
-        put("told %zu %zu %zu\n", number, (size_t)get_field(result, 2),
+    if (get_field(result, 0) == 0)
+        put("told %zu %zu %zu\n", (size_t)get_field(result, 1), (size_t)get_field(result, 2),
             (size_t)get_field(result, 3));
     else
         put("cannot\n");
 }
 
-void text_kinds(const arguments *a)
+static void put_window(size_t byte, size_t possible)
+{
+    if (byte == BYTE_NONE)
+        put("none %zu\n", possible);
+    else if (byte == BYTE_SEVERAL)
+        put("several\n");
+    else
+        put("letter %zu\n", byte);
+}
+
+static void put_answer(enum call call, const uint8_t *result)
+{
+    static const char *const words[KINDS_ANSWERS] = {"letter %zu\n", "kind %zu\n", "none\n",
+                                                     "several\n"};
+    size_t first = get_field(result, 0), number = get_field(result, 1);
+
+    if (call == CALL_SEARCH_KINDS)
+        put_kinds_told(result);
+    else if (call == CALL_WINDOW_KINDS)
+        put(words[first], number);
+    else
+        put_window(first, number);
+}
+
+void text_call(const arguments *a)
 {
     uint8_t result[RESULT_BYTES] = {0};
     arguments b = *a;
@@ -250,11 +276,11 @@ void text_kinds(const arguments *a)
         now.cases_left++;
         return;
     }
-    put_call_for_kinds(a);
+    put_call_on(a);
     if (number != 0)
         put("refused %zu\n", number);
     else
-        put_answer_for_kinds(a->call, result);
+        put_answer(a->call, result);
 }
 
 void close_texts(void)

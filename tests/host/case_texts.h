@@ -1,6 +1,6 @@
 /* Texts of cases for the program cases: calls that a host in C does not have, searches in a named
-   order and the reader, and the library's own writer and calls for kinds, with what each is to give.
-   crates/cases/stdin says how a case is written. */
+   order and the reader, and the library's own writer, single window and calls for kinds, with what
+   each is to give. crates/cases/stdin says how a case is written. */
 #ifndef CASE_TEXTS_H
 #define CASE_TEXTS_H
 
@@ -34,9 +34,9 @@ void text_writer(const size_t counts[3], const uint8_t *entries, size_t len, siz
 void text_writer_refused(const size_t counts[3], const uint8_t *entries, size_t len, size_t lent,
                          size_t number);
 
-/* The search or the window of kinds with these arguments, all but the result: what the enumerator
-   says. */
-void text_kinds(const arguments *a);
+/* The single window, the search or the window of kinds with these arguments, all but the result: what
+   the enumerator says. */
+void text_call(const arguments *a);
 
 /* Ends the last text and writes the list; nothing is written after it. */
 void close_texts(void);

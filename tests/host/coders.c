@@ -237,6 +237,18 @@ void make_filled(coder_file *f, const coder_file *base, size_t inputs, const uin
                    base->bytes + 6 + 2 * (s * letters + of[k]), 2);
 }
 
+/* ---- a letter of a spare state ---- */
+
+void make_with_spare_letter(coder_file *f, const coder_file *base)
+{
+    size_t states = base->bytes[3], inputs = base->bytes[4], i;
+
+    begin_file(f, states + 1, inputs, base->bytes[5] + 1u);
+    memcpy(f->bytes + 6, base->bytes + 6, base->len - 6);
+    for (i = 0; i < inputs; i++)
+        put_entry(f, states, i, random_below(states + 1), base->bytes[5]);
+}
+
 /* ---- faults ---- */
 
 /* A file too short; one byte changed; a letter more. */

@@ -69,6 +69,10 @@ void make_constant_line(coder_file *f, size_t line, const coder_file *end);
    stay: one puts out 0 or 1 by its letter, the other 2 or 3. With two states it is coder G. */
 void make_line_like_g(coder_file *f, size_t line);
 
+/* The coder with a state more, its last, which no input string reaches, and an output letter more, its
+   last, which that state alone puts out. At most 15 states and 63 output letters before. */
+void make_with_spare_letter(coder_file *f, const coder_file *base);
+
 /* The file with one fault, the faults in checking order of their numbers; returns the number. The
    coder has more than one input letter. */
 enum { FILE_FAULTS = 8, FAULTS_BEFORE_15 = 7 };

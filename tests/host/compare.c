@@ -186,3 +186,12 @@ reply compare_known(const arguments *a, const uint8_t *bytes, size_t count)
     put_field(wanted_result, 0, count);
     return call_and_compare(a, 0, 0);
 }
+
+reply compare_none(const arguments *a, size_t possible)
+{
+    show_call(a);
+    fill_wanted(a, 0);
+    put_field(wanted_result, 0, BYTE_NONE);
+    put_field(wanted_result, 1, possible);
+    return call_and_compare(a, 0, 0);
+}

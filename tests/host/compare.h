@@ -67,6 +67,10 @@ reply compare(const arguments *a);
    lent buffer, and their count in field 0. */
 reply compare_known(const arguments *a, const uint8_t *bytes, size_t count);
 
+/* A single window of which it is known without the enumerator that no run gives it, and how many
+   letters from its first on some run does. */
+reply compare_none(const arguments *a, size_t possible);
+
 /* ---- trying.c ---- */
 
 /* Whether the window fails, with the coder's settle count. */

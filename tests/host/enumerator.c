@@ -109,6 +109,16 @@ static size_t put_file(const arguments *a, uint8_t *file)
     return 3 + count;
 }
 
+/* The fields of a single window: a second one with none alone. */
+static void put_window_answer(const coder *c, const arguments *a, uint8_t *result)
+{
+    uint8_t byte = window_byte(c, a->before, a->after, a->bytes);
+
+    put_field(result, 0, byte);
+    if (byte == BYTE_NONE)
+        put_field(result, 1, possible_letters(c, a->bytes, a->bytes_len));
+}
+
 /* The fields of a search for kinds; with "cannot" there is one alone. */
 static void put_kinds_verdict(const kinds_verdict *v, uint8_t *result)
 {
@@ -167,7 +177,7 @@ int expected_answer(const arguments *a, uint8_t *lent, uint8_t *result)
         put_field(result, 0, (uint64_t)pair_valid(&c, &p));
         return 1;
     case CALL_WINDOW:
-        put_field(result, 0, window_byte(&c, a->before, a->after, a->bytes));
+        put_window_answer(&c, a, result);
         return !steps_used_up();
     case CALL_TABLE:
         count = table_bytes(c.outputs, a->before + 1 + a->after);

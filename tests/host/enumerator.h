@@ -160,6 +160,7 @@ size_t fitting_letters(const coder *c, size_t before, size_t after, const uint8_
                        uint8_t letters[MOST_INPUTS]);
 
 /* The byte of a received window: the letter that alone fits, none or several. */
+enum { BYTE_NONE = 254, BYTE_SEVERAL = 255 };
 uint8_t window_byte(const coder *c, size_t before, size_t after, const uint8_t *received);
 
 /* The entries that a run can follow, out of each state or into it: the state at the other end, the
@@ -174,6 +175,18 @@ typedef struct entry_ends {
 } entry_ends;
 
 void list_entries(const coder *c, entry_ends *out, entry_ends *in);
+
+/* ---- enumerator_how_far.c ---- */
+
+/* Document 02, 9/13: how many of n received letters, from the first on, some run puts out, in a start
+   state at the first; n where some run puts out all. By trying runs; nothing is said where the
+   allowance did not suffice. */
+size_t possible_letters(const coder *c, const uint8_t *received, size_t n);
+
+/* The same by every run from a reachable state outright, with the letters ahead of the window.
+   Returns 0, with nothing said, where there are more runs than given. */
+int possible_outright(const coder *c, const uint8_t *received, size_t n, size_t most,
+                      size_t *possible);
 
 /* ---- enumerator_apart.c ---- */
 

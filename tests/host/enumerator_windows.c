@@ -283,6 +283,6 @@ uint8_t window_byte(const coder *c, size_t before, size_t after, const uint8_t *
     size_t fitting = fitting_letters(c, before, after, received, letters);
 
     if (fitting == 0)
-        return 254;
-    return fitting == 1 ? letters[0] : 255;
+        return BYTE_NONE;
+    return fitting == 1 ? letters[0] : BYTE_SEVERAL;
 }

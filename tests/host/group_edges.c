@@ -100,7 +100,7 @@ static void edge_lengths(const coder_file *f)
 static void both(const arguments *a, size_t number)
 {
     known_refusal(a, number);
-    text_kinds(a);
+    text_call(a);
 }
 
 /* The call with the kinds given is accepted or, for the other faults that it has, refused with this
@@ -198,7 +198,7 @@ static void in_place_of_16(const arguments *a, size_t number)
 {
     known_refusal(a, number);
     text_file(a->file, a->file_len);
-    text_kinds(a);
+    text_call(a);
 }
 
 /* A file with a fault comes before 16; 16 comes before a result too short. */

@@ -36,7 +36,7 @@ static void numbered_lists(const coder_file *f, size_t every, int windows, int w
         a = plain(CALL_SEARCH_KINDS, f);
         a.kinds = kinds;
         if (write)
-            text_kinds(&a);
+            text_call(&a);
     }
 }
 
@@ -107,12 +107,12 @@ static void lists_of(const coder_file *f, int windows)
     try_kinds(f, kinds, windows);
     a.kinds = kinds;
     text_file(f->bytes, f->len);
-    text_kinds(&a);
+    text_call(&a);
     do
         a = random_arguments(CALL_WINDOW_KINDS, f);
     while (a.bytes_len > 8);
     a.kinds = kinds;
-    text_kinds(&a);
+    text_call(&a);
 }
 
 /* Kinds of the letters before there were more of them; then with one letter's kind drawn anew. */

@@ -22,6 +22,7 @@ void group_settle_limit(void);
 void group_settle(void);
 void group_unused(void);
 void group_kinds(void);
+void group_how_far(void);
 void group_orders(void);
 
 #endif

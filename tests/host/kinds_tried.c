@@ -209,7 +209,7 @@ void known_kinds(const coder_file *f, const uint8_t *kinds, const kinds_verdict 
     arguments a = call_with(CALL_SEARCH_KINDS, f, kinds);
     kinds_verdict v = try_kinds(f, kinds, ALL_WINDOWS);
 
-    text_kinds(&a);
+    text_call(&a);
     known_value("whether kinds are told", (size_t)v.told, (size_t)known->told);
     if (!known->told)
         return;
@@ -232,7 +232,7 @@ void known_answer(const coder_file *f, const uint8_t *kinds, size_t before, size
     known_value("the answer of the window", get_field(got.result, 0), answer);
     if (answer == KINDS_LETTER || answer == KINDS_KIND)
         known_value("the letter or kind of the window", get_field(got.result, 1), number);
-    text_kinds(&a);
+    text_call(&a);
 }
 
 void compare_ways_to_tell(const coder_file *f, size_t most)

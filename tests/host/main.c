@@ -17,7 +17,8 @@
    coders, the small random ones, the chains, the changed chains of up to 6 states, and the lines of
    the settle counts; cases of the reader and of the writer for the examples and for random coders
    (group_writer.c), and for files with output letters that no entry names (group_unused.c); cases of
-   the calls for kinds at the edges, for small coders and for random ones (group_kinds.c). */
+   the calls for kinds at the edges, for small coders and for random ones (group_kinds.c); cases of the
+   single window for the examples, lines, small coders and random ones (group_how_far.c). */
 #include "case_texts.h"
 #include "coders.h"
 #include "compare.h"
@@ -64,6 +65,7 @@ int main(int count, char **words)
     group_settle();
     group_unused();
     group_kinds();
+    group_how_far();
     group_orders();
     return end_groups();
 }

@@ -29,7 +29,7 @@ fn run(file: &[u8], start: usize, input: &[u8], lent: &mut [u8]) -> Got {
 fn answer(a: fitting::Answer) -> Got {
     match a {
         fitting::Answer::Letter(x) => got::short(got::LETTER, x as usize, 0, 0),
-        fitting::Answer::None => got::short(got::NONE, 0, 0, 0),
+        fitting::Answer::None(far) => got::short(got::NONE_COUNTED, far, 0, 0),
         fitting::Answer::Several => got::short(got::SEVERAL, 0, 0, 0),
     }
 }

@@ -36,13 +36,15 @@ pub(crate) const CANNOT: usize = 14;
 
 pub(crate) const KIND: usize = 15;
 
-pub(crate) const UNREADABLE: usize = 16;
+pub(crate) const NONE_COUNTED: usize = 16;
 
-pub(crate) const CASE: usize = 17;
+pub(crate) const UNREADABLE: usize = 17;
 
-pub(crate) const TOTAL: usize = 18;
+pub(crate) const CASE: usize = 18;
 
-pub(crate) const LONG: usize = 19;
+pub(crate) const TOTAL: usize = 19;
+
+pub(crate) const LONG: usize = 20;
 
 // The number of a form, and the numbers that stand in it.
 pub(crate) struct Got {
@@ -69,7 +71,7 @@ pub(crate) fn short(form: usize, a: usize, b: usize, c: usize) -> Got {
 }
 
 // The forms, in the order of their numbers: `#` stands for a space and a number, `@` for a list of bytes with a space before each.
-fn forms() -> [u8; 248] {
+fn forms() -> [u8; 254] {
     *b"refused#\n\
     refused#, buffer@\n\
     coder###\n\
@@ -86,6 +88,7 @@ fn forms() -> [u8; 248] {
     told###\n\
     cannot\n\
     kind#\n\
+    none#\n\
     cannot be read\n\
     case#: \n\
     cases#, differ#\n\

@@ -10,7 +10,7 @@ use Rattle.mealy.specs.Machine.{outs, Letters}
 use Rattle.mealy.specs.Reachable.{Reachable}
 use Rattle.mealy.specs.Window.{Works}
 use Rattle.mealy.specs.Answer.{letter}
-use Rattle.mealy.proofs.Answers.{length-outs}
+use Rattle.mealy.proofs.RunParts.{length-outs}
 use Rattle.mealy.proofs.ComesBack.{comes-back-at}
 use Rattle.mealy.proofs.StartStates.{start-take}
 use Rattle.coder.specs.File.{inputsOf, machineOf}

@@ -3,10 +3,14 @@ use mathlib.Core.Path.{_≡_, refl, sym, ap, subst}
 use mathlib.Core.List.{List, _++_}
 use Prim.Native.Nat.{ℕ, _^_, _≤_, _<_}
 use lib.ListN.{length, take, drop}
-use Rattle.mealy.specs.Setting.{Bounded, afterLetters}
+use Rattle.mealy.specs.Machine.{Machine}
+use Rattle.mealy.specs.Setting.{Same, afterLetters}
 use Rattle.mealy.specs.Answer.{Fits}
-use Rattle.mealy.proofs.Words.{holds-map}
-use Rattle.mealy.proofs.SameSettings.{fits-same, same-sym}
+use Rattle.mealy.proofs.Words.{holds-map, holds-empty}
+use Rattle.mealy.proofs.SameSettings.{fits-same, far-same, same-sym}
+use Rattle.mealy.proofs.Answers.{no-fit↔no-run}
+use Rattle.mealy.proofs.ImageWords.{farWord, far-word}
+use Rattle.mealy.proofs.StartStates.{start-some, after-bounded}
 use Rattle.mealy.specs.Index.{windowAt}
 use Rattle.mealy.specs.Word.{Holds}
 use Rattle.coder.specs.File.{fileRefusal, outputsOf, machineOf, settingAfter}
@@ -15,17 +19,18 @@ use Rattle.coder.specs.declared.inner.tables.Coder.{Coder}
 use Rattle.coder.proofs.Accepted.{accepted}
 use Rattle.coder.proofs.Tables.{total, some-state}
 use Rattle.starts.proofs.Computed.{startsWord, starts-hold}
-use Rattle.setting.specs.Words.{settingOfCoder, fromWord}
-use Rattle.setting.proofs.Same.{coder-sound, coder-machine, same-word, word-bounded}
+use Rattle.setting.specs.Words.{settingOfCoder, fromWord, StartWord}
+use Rattle.setting.proofs.Same.{coder-sound, coder-machine, same-word, start-word}
 use Rattle.chains.specs.Chain.{Keys}
 use Rattle.chains.proofs.Entries.{output-keys}
 use Rattle.chains.specs.Rows.{Rowed}
-use Rattle.fitting.specs.Answer.{Right, RightByte}
+use Rattle.fitting.specs.Answer.{Right, RightByte, answerOf}
+use Rattle.fitting.specs.declared.Answer.{Answer}
 use Rattle.fitting.proofs.Answers.{holds-right, byte-same}
 use Rattle.filling.specs.Sets.{RowsOf}
 use Rattle.filling.specs.Table.{TableFilled}
-use Rattle.fitting.specs.Tables.{SetsOf, TablesOf}
-use Rattle.filling.specs.Window.{fittingWord, decoded}
+use Rattle.fitting.specs.Tables.{SetsOf, TablesOf, DecodedIn}
+use Rattle.filling.specs.Window.{fittingWord}
 use Rattle.filling.proofs.Window.{word-fits}
 use Rattle.values.specs.Window.{size}
 use Rattle.values.specs.declared.Window.{Window}
@@ -59,25 +64,28 @@ module _ {c : Coder} {f : List ℕ} (h : CoderOf c f) where
 
   -- what is right from the states of a word is right for the file's windows with the settle count whose start states these are
   module _ (p : ℕ) {starts : ℕ} (s : Holds (settingOfCoder c p .Start) starts) where
-    pub fits-of : (w : List ℕ) (b : ℕ) {u : ℕ} → Holds (Fits (fromWord c starts) w b) u → Holds (Fits (settingAfter f p) w b) u
-    fits-of w b {u} r =
-        let e = same-word c p s in
-        subst (λ M. Holds (Fits (afterLetters M p) w b) u) (coder-machine (h .is) (accepted f (h .file)))
-        (holds-map (fits-same e w b) (fits-same (same-sym e) w b) r)
+    same-file : Same (fromWord c starts) (settingAfter f p)
+    same-file =
+        subst (λ (M : Machine). Same (fromWord c starts) (afterLetters M p)) (coder-machine (h .is) (accepted f (h .file))) (same-word c p s)
+
+    fits-of : (w : List ℕ) (b : ℕ) {u : ℕ} → Holds (Fits (fromWord c starts) w b) u → Holds (Fits (settingAfter f p) w b) u
+    fits-of w b = holds-map (fits-same same-file w b) (fits-same (same-sym same-file) w b)
+
+    pub decoded-of :
+        (w : List ℕ) (b : ℕ) {u far : ℕ} → DecodedIn (fromWord c starts) w b u far → DecodedIn (settingAfter f p) w b u far
+    decoded-of w b d = record { fits = fits-of w b (d .fits); count = λ z. far-same same-file w _ (d .count z) }
 
     pub byte-of : (w : List ℕ) (b : ℕ) {v : ℕ} → RightByte (fromWord c starts) w b v → RightByte (settingAfter f p) w b v
-    byte-of w b {v} r =
-        subst (λ M. RightByte (afterLetters M p) w b v) (coder-machine (h .is) (accepted f (h .file)))
-        (byte-same (same-word c p s) w b v r)
+    byte-of w b {v} r = byte-same same-file w b v r
 
-    pub starts-of : Bounded (fromWord c starts)
-    starts-of = word-bounded c p s sound-of
+    pub starts-of : StartWord c starts
+    starts-of = start-word c p s sound-of
 
     -- the tables by output letter
     pub tables-of :
         {successors predecessors letters : List ℕ} → SetsOf c successors predecessors letters →
         TablesOf c (c .next) successors predecessors letters starts
-    tables-of k = record { sound = sound-of; next-is = refl; sets = k; starts-low = starts-of }
+    tables-of k = record { sound = sound-of; next-is = refl; sets = k; starts-are = starts-of }
 
   module _ (w : Window) {starts : ℕ} (s : Holds (settingOfCoder c (w .settle) .Start) starts) where
     -- a string
@@ -121,9 +129,22 @@ file-fits f z p w b l =
     let h : CoderOf (coderOf f) f = record { is = refl; file = z } in
     let same = coder-machine (h .is) (accepted f z) in
     let s = subst (λ M. Holds (afterLetters M p .Start) (startsOf f p)) (sym same) (file-starts f z p) in
-    fits-of h p s w b (word-fits (coderOf f) (sound-of h) (startsOf f p) w b (starts-of h p s) l)
+    fits-of h p s w b (word-fits (coderOf f) (sound-of h) (startsOf f p) w b (starts-of h p s .low) l)
+
+abbrev pub decoded : List ℕ → ℕ → List ℕ → ℕ → Answer
+decoded f p w b = answerOf (fittingWord (coderOf f) (startsOf f p) w b) (farWord (machineOf f) (startsOf f p) w)
 
 pub file-right :
-    (f : List ℕ) → fileRefusal f ≡ 0 → (p : ℕ) (w : List ℕ) (b : ℕ) → b < length w →
-    Right (settingAfter f p) w b (decoded (coderOf f) (startsOf f p) w b)
-file-right f z p w b l = holds-right (file-fits f z p w b l)
+    (f : List ℕ) → fileRefusal f ≡ 0 → (p : ℕ) (w : List ℕ) (b : ℕ) → b < length w → Right (settingAfter f p) w b (decoded f p w b)
+unfolding machineOf
+file-right f z p w b l =
+    let a = accepted f z in
+    let M = machineOf f in
+    let S = settingAfter f p in
+    let fits = file-fits f z p w b l in
+    let starts = file-starts f z p in
+    let some = start-some M (a .entries .limits .inputs-low) p in
+    holds-right fits
+    (λ e.
+    far-word S (total f a) (a .entries .limits .states-high) (after-bounded M (total f a) (some-state f a) p) (startsOf f p) starts
+    (λ n. holds-empty starts n (some .0) (some .1)) w (no-fit↔no-run S w b l .0 (holds-empty fits e)))

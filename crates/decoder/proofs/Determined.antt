@@ -12,9 +12,7 @@ use Rattle.mealy.specs.Index.{windowAt}
 use Rattle.mealy.proofs.Indices.{length-window}
 use Rattle.coder.specs.Refusal.{answer}
 use Rattle.coder.specs.File.{fileRefusal, outputsOf, settingAfter}
-use Rattle.coder.specs.Table.{coderOf}
 use Rattle.fitting.specs.Answer.{meaning, RightByte}
-use Rattle.filling.specs.Window.{decoded}
 use Rattle.fitting.proofs.Answers.{right-unique, right-byte, right-byte-unique}
 use Rattle.coder.specs.Refusal.{upon}
 use Rattle.values.specs.Window.{size}
@@ -31,7 +29,7 @@ use Rattle.decoder.specs.declared.WindowResult.the-variants.{Refused, An
 use Rattle.decoder_refusal.proofs.Accepting.{window-accepted, string-accepted, table-accepted}
 use Rattle.decoder.proofs.Asking.{string-asked, table-asked}
 use Rattle.decoder.proofs.Writing.{written-front, written-unique}
-use Rattle.decoder.proofs.Decoding.{startsOf, file-right}
+use Rattle.decoder.proofs.Decoding.{decoded, file-right}
 
 -- ---- one window
 
@@ -56,7 +54,7 @@ module _ (f : List ℕ) (w : Window) (received : List ℕ) (others : Bool) where
           (r : WindowResult) × upon k (λ j. r ≡ Refused j) (AnsweredRight f w received r)
       go zero e =
           let h = window-accepted f w received others e in
-          let v = decoded (coderOf f) (startsOf f (w .settle)) received (w .before) in (
+          let v = decoded f (w .settle) received (w .before) in (
             Answered v,
             record { answer = v; is = refl; right = file-right f (h .limits .file) (w .settle) received (w .before) (omega (arith, h .long)) },
           )
@@ -99,12 +97,12 @@ module _ (f : List ℕ) (p b : ℕ) (part : ℕ → List ℕ) (n k : ℕ) (befor
       (r : count.CountResult) × (after : List ℕ) × Promise r after
   parts-exist h =
       let e =
-      bytes-exist ByteOf n before (λ j. byteOf (meaning (decoded (coderOf f) (startsOf f p) (part j) b))) k
+      bytes-exist ByteOf n before (λ j. byteOf (meaning (decoded f p (part j) b))) k
       (λ z.
       let a = h z in (
         a .1,
         λ j l.
-            right-byte (settingAfter f p) (part j) b (decoded (coderOf f) (startsOf f p) (part j) b)
+            right-byte (settingAfter f p) (part j) b (decoded f p (part j) b)
             (file-right f (a .0) p (part j) b (a .2 j l)),
       )) in
       (_, e .0, record { result = refl; bytes = e .1 })

@@ -1,15 +1,40 @@
 // The decoder for a host in C: the library's own calls, each result laid into one more lent buffer.
+ghost use Prim.Native.Nat.{_≤_};
+ghost use mathlib.Core.Path.{_≡_};
+ghost use lib.ListN.{length};
+ghost use Rattle.layout.specs.Layout.{resultBytes, withFields};
 ghost use Rattle.layout.specs.Host.{LaidOut, HasRoom};
 ghost use Rattle.values.specs.Window.{window as windowOf};
-ghost use Rattle.decoder_host.specs.Laid.{laidWindow, WindowFromHost, StringFromHost, TableFromHost};
+ghost use Rattle.decoder_host.specs.Laid.{answerFields, laidWindow, WindowFromHost, StringFromHost, TableFromHost};
 use coder::inner::bytes::number;
 use decoder::WindowResult;
 use decoder::inner::calls;
-use fitting::inner::answer::answer_byte;
+use fitting::Answer;
+use fitting::inner::answer::NONE;
+use fitting::inner::answer::SEVERAL;
 use layout::inner::put_count;
 use layout::inner::put_one;
+use layout::inner::put_two;
 use layout::inner::roomy;
 use values::Window;
+
+// The fields of an answer.
+fn put_answer(result: &mut [u8], answer: Answer)
+    requires { ⌜ resultBytes ≤ length (now result) ⌝ }
+    ensures { λ _. ⌜ now (result .exit) ≡ withFields (now (result .entry)) (answerFields answer) ⌝ }
+{
+    match answer {
+        Answer::Letter(x) => {
+            put_one(result, number(x));
+        }
+        Answer::None(far) => {
+            put_two(result, number(NONE), far);
+        }
+        Answer::Several => {
+            put_one(result, number(SEVERAL));
+        }
+    }
+}
 
 // The fields of a window's result: what is returned for it.
 fn put(own: WindowResult, result: &mut [u8]) -> usize
@@ -19,7 +44,7 @@ fn put(own: WindowResult, result: &mut [u8]) -> usize
     match own {
         WindowResult::Refused(k) => k,
         WindowResult::Answered(answer) => {
-            put_one(result, number(answer_byte(answer)));
+            put_answer(result, answer);
             0
         }
     }

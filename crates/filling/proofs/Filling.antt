@@ -12,7 +12,6 @@ use lib.Seq.{getD-take, getD-append-add, length-take-le, getD-set-same, getD-set
 use lib.Dec.{eqb, lit<}
 use borrow.Author.Count.{below-more}
 use borrow.Rule.Slice.PartMut.{midOf, postOf, putMid, same-len-mid}
-use Rattle.mealy.specs.Setting.{Bounded}
 use Rattle.mealy.specs.Index.{windowAt}
 use Rattle.mealy.proofs.Indices.{length-window, window-digits}
 use Rattle.mealy.specs.Machine.{Machine}
@@ -24,9 +23,10 @@ use Rattle.coder.specs.Table.{machineOfCoder, Sound}
 use Rattle.coder.specs.declared.inner.tables.Coder.{Coder}
 use Rattle.coder.proofs.Tables.{next-high}
 use Rattle.coder.proofs.Fill.{getD-table}
-use Rattle.setting.specs.Words.{fromWord}
+use Rattle.setting.specs.Words.{fromWord, StartWord}
 use Rattle.fitting.specs.Answer.{meaning, ByteOf, answerOf}
 use Rattle.fitting.proofs.Answers.{byte-right}
+use Rattle.fitting.proofs.Meaning.{some-far}
 use Rattle.filling.specs.Runs.{Sets, SetAfter, From, EachWord, SetsIn, LetterAfter}
 use Rattle.filling.specs.Sets.{advance, startSets, RowsOf, RowsAsked}
 use Rattle.filling.specs.Table.{FillAsked, TableFilled, PartAsked, PartFilled, LastAsked, LastFilled}
@@ -112,7 +112,7 @@ last-none e = record { bound = omega arith; size = e; is = λ c a k l. absurd (o
 pub last-more :
     {start entries v table : List ℕ} {here : Bool} {outputs o u x : ℕ} → LastFilling start entries v here outputs table o →
     o < outputs → ((c : Coder) → RowsOf c start entries → Holds (LetterAfter c v o here) u) →
-    x ≡ byteOf (meaning (answerOf u)) → LastFilling start entries v here outputs (set table o x) (o + 1)
+    x ≡ byteOf (meaning (answerOf u 0)) → LastFilling start entries v here outputs (set table o x) (o + 1)
 last-more {v = v} {table = table} {here = here} {o = o} {u = u} {x = x} f l h e =
     let z = f .size in
     record {
@@ -307,7 +307,7 @@ fill-asked starts a e l =
 
 pub table-filled :
     {c : Coder} {o n b starts : ℕ} {v table : List ℕ} → Sound c → v ≡ startSets starts →
-    Bounded (fromWord c starts) → b < n → PartFilled c v o n (b + 1) table → TableFilled c starts o n b table
+    StartWord c starts → b < n → PartFilled c v o n (b + 1) table → TableFilled c starts o n b table
 table-filled {c} {o} {n} {b} {starts} {v} {table} sound e h l f =
     let S = fromWord c starts in
     record {
@@ -315,7 +315,7 @@ table-filled {c} {o} {n} {b} {starts} {v} {table} sound e h l f =
       is = λ k m.
           let w = windowAt o n k in
           let long : b < length w = omega (arith, length-window o n k) in
-          byte-right S w b
+          byte-right S w b long (some-far sound h w)
           (byte-map
           (λ x g. fits-from S w b x long (from-map to g))
           (λ x g. from-map from (from-fits S w b x g))
@@ -326,4 +326,4 @@ table-filled {c} {o} {n} {b} {starts} {v} {table} sound e h l f =
     to s x q = holds-member (start-holds c sound starts s (q .0)) x (rw e at (q .1))
 
     from : (s x : ℕ) → startingSets (fromWord c starts) s x → SetsIn c v s x
-    from s x q = let l = h s (q .0) in (l, rw e (start-holds c sound starts s l .has x q))
+    from s x q = let l = h .low s (q .0) in (l, rw e (start-holds c sound starts s l .has x q))

@@ -9,7 +9,7 @@ use borrow.Author.Tests.{ne-eqb}
 use Rattle.mealy.specs.Machine.{Machine, outs, Letters}
 use Rattle.mealy.specs.Setting.{Setting}
 use Rattle.mealy.specs.Answer as mealy
-use Rattle.mealy.proofs.Answers.{length-outs}
+use Rattle.mealy.proofs.RunParts.{length-outs}
 use Rattle.filling.specs.Runs.{Sets, Contributes, SetAfter, presentLetter, From}
 
 module _ (M : Machine) (Q : Sets) where

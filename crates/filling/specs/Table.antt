@@ -4,12 +4,12 @@ use Prim.Native.Nat.{ℕ, _^_, _≤_, _<_}
 use mathlib.Core.Path.{_≡_}
 use mathlib.Core.List.{List}
 use lib.ListN.{length, getD}
-use Rattle.mealy.specs.Setting.{Setting, Bounded}
+use Rattle.mealy.specs.Setting.{Setting}
 use Rattle.mealy.specs.Index.{windowAt}
 use Rattle.coder.specs.Limits.{maxOutputs}
 use Rattle.coder.specs.Table.{machineOfCoder}
 use Rattle.coder.specs.declared.inner.tables.Coder.{Coder}
-use Rattle.setting.specs.Words.{fromWord}
+use Rattle.setting.specs.Words.{fromWord, StartWord}
 use Rattle.fitting.specs.Answer.{RightByte, ByteOf}
 use Rattle.filling.specs.Runs.{From, EachWord, SetsIn, LetterAfter}
 use Rattle.filling.specs.Sets.{RowsOf, RowsAsked}
@@ -35,7 +35,7 @@ pub record TableFilled (c : Coder) (starts o n b : ℕ) (table : List ℕ) : Typ
 
 abbrev pub FillGiven : List ℕ → List ℕ → List ℕ → ℕ → ℕ → ℕ → ℕ → List ℕ → Type 0
 FillGiven next start entries outputs starts n b table =
-    (c : Coder) → RowsOf c start entries → next ≡ c .next → Bounded (fromWord c starts) → TableFilled c starts outputs n b table
+    (c : Coder) → RowsOf c start entries → next ≡ c .next → StartWord c starts → TableFilled c starts outputs n b table
 
 -- ---- the part of the table whose windows have `left` letters more, after letters that led to the sets v
 

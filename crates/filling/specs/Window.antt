@@ -1,13 +1,10 @@
--- One window as a computation: the letters that fit, and what a table has for it. The laws that an outcome exists and the worked examples
--- compute with it.
+-- The letters that fit one window as a computation. The laws that an outcome exists and the worked examples compute with it.
 use Prim.Native.Nat.{ℕ, zero, suc, pred}
 use mathlib.Core.List.{List, [], _∷_}
 use lib.Bits.{bitOr}
 use lib.ListN.{getD}
 use lib.Dec.{eqb}
 use Rattle.coder.specs.declared.inner.tables.Coder.{Coder}
-use Rattle.fitting.specs.Answer.{answerOf}
-use Rattle.fitting.specs.declared.Answer.{Answer}
 use Rattle.filling.specs.Sets.{advance, startSets}
 
 -- the sets after all letters of w, of which letter p, counted from 1, is the present one
@@ -23,6 +20,3 @@ unionOf (suc n) v = bitOr (unionOf n v) (getD v n 0)
 -- the word of the letters that fit
 unfoldable pub fittingWord : Coder → ℕ → List ℕ → ℕ → ℕ
 fittingWord c starts w b = unionOf (c .states) (pass c (c .next) (startSets starts) w (suc b))
-
-abbrev pub decoded : Coder → ℕ → List ℕ → ℕ → Answer
-decoded c starts w b = answerOf (fittingWord c starts w b)

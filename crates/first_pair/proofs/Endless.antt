@@ -11,7 +11,7 @@ use Rattle.mealy.specs.Setting.{Setting, Closed, Bounded}
 use Rattle.mealy.specs.Window.{EqualOutputs, Works}
 use Rattle.mealy.specs.Product.{Edge, back, forward, Level, ConflictEdge}
 use Rattle.mealy.specs.LoopedPair.{LoopedPair, letters, Valid}
-use Rattle.mealy.proofs.ComesBack.{letters-take, end-start}
+use Rattle.mealy.proofs.RunParts.{letters-take, end-start}
 use Rattle.mealy.proofs.Edges.{equal-edge, equal-tail}
 use Rattle.mealy.proofs.Runs.{back→runs, forward→runs}
 use Rattle.mealy.proofs.Windows.{unambiguous→works}

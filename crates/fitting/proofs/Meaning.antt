@@ -5,24 +5,26 @@ use mathlib.Core.List.{List, [], _∷_}
 use Prim.Native.Nat.{ℕ, _+_, _*_, _/_, _%_, _<_, _≤_}
 use native.Mathlib.Omega.{arith}
 use native.Mathlib.Decide.{decLt}
-use lib.ListN.{length, getD, List·getD-eq-default}
+use lib.ListN.{length, getD, take, List·getD-eq-default}
 use Rattle.coder.proofs.Fill.{length-table, getD-table}
-use Rattle.mealy.specs.Machine.{Machine, Letters}
+use Rattle.mealy.specs.Machine.{Machine, Letters, Total}
 use Rattle.mealy.specs.Word.{Has, Holds}
+use Rattle.mealy.specs.HowFar.{NoRun, HowFar}
 use Rattle.mealy.specs.Answer.{Fits}
-use Rattle.mealy.specs.Image.{Transitions, Entry, Successor}
-use Rattle.mealy.proofs.Words.{holds-map}
-use Rattle.mealy.proofs.Members.{holds-member}
-use Rattle.mealy.proofs.Images.{All, fitting-within, fitting-fits, fits-fitting}
+use Rattle.mealy.specs.Image.{Transitions, FarIn, Entry, Successor}
+use Rattle.mealy.proofs.Words.{holds-map, holds-empty}
+use Rattle.mealy.proofs.Members.{holds-member, holds-itself}
+use Rattle.mealy.proofs.Images.{All, following-within, fitting-within, fitting-fits, fits-fitting}
+use Rattle.mealy.proofs.RunParts.{letters-take}
+use Rattle.mealy.proofs.Possible.{far-map, far-runs}
+use Rattle.mealy.proofs.ImageWords.{farWord, far-word}
+use Rattle.mealy.proofs.Answers.{no-fit↔no-run}
 use Rattle.coder.specs.Table.{machineOfCoder, Sound}
 use Rattle.coder.specs.declared.inner.tables.Coder.{Coder}
 use Rattle.coder.proofs.Tables.{table-at, table-place, next-high, output-high}
 use Rattle.chains.specs.Parts.{placePart, placeParts}
-use Rattle.setting.specs.Words.{fromWord}
-use Rattle.fitting.specs.Answer.{Right, answerOf}
-use Rattle.fitting.specs.declared.Answer.{Answer}
-use Rattle.fitting.proofs.Answers.{holds-right}
-use Rattle.fitting.specs.Tables.{GivenBelow, EntriesAsked, ByOutput, Leads, OnLetter, FittingIn, TablesAsked, TablesOf}
+use Rattle.setting.specs.Words.{fromWord, StartWord}
+use Rattle.fitting.specs.Tables.{GivenBelow, EntriesAsked, ByOutput, Leads, OnLetter, FittingIn, TablesAsked, TablesOf, DecodedIn}
 
 -- what making the tables asks, of a sound coder
 part-low : (letters : Bool) (p : ℕ) → p < 256 → placePart letters p < 16
@@ -186,6 +188,14 @@ module _ {c : Coder} {next successors predecessors letters : List ℕ} {starts :
         to = rw (k .next-is) (table-place (c .next) s x (omega arith) ∙ e .to);
       }
 
+  -- the transitions of the tables are those of the coder, for every letter
+  all : (R R′ : Transitions) (f : (o s t : ℕ) → o < 64 → R o s t → R′ o s t) (w : List ℕ) → Letters 64 w → All R R′ (λ o. o < 64) f w
+  all R R′ f [] l = tt
+  all R R′ f (o ∷ w) l = (l .0, all R R′ f w (l .1))
+
+  sound-total : Total N
+  sound-total s i p l = k .sound .next-state s i
+
   -- the letters that fit
   pub fits-in : (w : List ℕ) (b : ℕ) {u : ℕ} → Letters 64 w → Holds (FittingIn next successors letters (Has starts) w b) u →
       Holds (Fits (fromWord c starts) w b) u
@@ -199,14 +209,46 @@ module _ {c : Coder} {next successors predecessors letters : List ℕ} {starts :
       (λ x f.
       fitting-within (Successor N) (Leads successors) (λ o. o < 64) from-successor (Entry N) (OnLetter next letters) entry-on w
       (all (Successor N) (Leads successors) from-successor w l) b x (λ s h. h)
-      (fits-fitting S (k .sound .next-state) (k .starts-low) w b x f))
-    where
-      all :
-          (R R′ : Transitions) (f : (o s t : ℕ) → o < 64 → R o s t → R′ o s t) (w : List ℕ) → Letters 64 w → All R R′ (λ o. o < 64) f w
-      all R R′ f [] l = tt
-      all R R′ f (o ∷ w) l = (l .0, all R R′ f w (l .1))
+      (fits-fitting S sound-total (k .starts-are .low) w b x f))
 
-  pub answer-right :
-      (w : List ℕ) (b : ℕ) {u : ℕ} {v : Answer} → Letters 64 w → Holds (FittingIn next successors letters (Has starts) w b) u →
-      v ≡ answerOf u → Right (fromWord c starts) w b v
-  answer-right w b l h e = rw e (holds-right (fits-in w b l h))
+  -- the letters that lead to some state: some run produces them
+  far-in :
+      (w : List ℕ) {n : ℕ} → Letters 64 w → NoRun (fromWord c starts) w → FarIn (Leads successors) (Has starts) w n →
+      HowFar (fromWord c starts) w n
+  far-in w l none h =
+      far-runs (fromWord c starts) sound-total (k .starts-are .low) w none
+      (far-map
+      (λ m r. record {
+        t = r .t;
+        is =
+            following-within (Leads successors) (Successor N) (λ o. o < 64) to-successor (take m w)
+            (all (Leads successors) (Successor N) to-successor (take m w) (letters-take 64 m w l))
+            {P = Has starts} {P′ = Has starts} (λ s q. q) (r .t) (r .is);
+      })
+      (λ m r. record {
+        t = r .t;
+        is =
+            following-within (Successor N) (Leads successors) (λ o. o < 64) from-successor (take m w)
+            (all (Successor N) (Leads successors) from-successor (take m w) (letters-take 64 m w l))
+            {P = Has starts} {P′ = Has starts} (λ s q. q) (r .t) (r .is);
+      })
+      h)
+
+  pub decoded-in :
+      (w : List ℕ) (b : ℕ) {u far : ℕ} → Letters 64 w → b < length w → Holds (FittingIn next successors letters (Has starts) w b) u →
+      (u ≡ 0 → FarIn (Leads successors) (Has starts) w far) → DecodedIn (fromWord c starts) w b u far
+  decoded-in w b l m h leads =
+      let fits = fits-in w b l h in
+      record {
+        fits = fits;
+        count = λ z. far-in w l (no-fit↔no-run (fromWord c starts) w b m .0 (holds-empty fits z)) (leads z);
+      }
+
+-- Where no run from the states of the word gives the letters, there is a count.
+pub some-far :
+    {c : Coder} {starts : ℕ} → Sound c → StartWord c starts → (w : List ℕ) → NoRun (fromWord c starts) w →
+    (k : ℕ) × HowFar (fromWord c starts) w k
+some-far {c} {starts} sound s w none = (
+  farWord (machineOfCoder c) starts w,
+  far-word (fromWord c starts) (λ t i p l. sound .next-state t i) (sound .states-high) (s .low) starts (holds-itself (s .bound)) (s .some) w none,
+)

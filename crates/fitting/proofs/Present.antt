@@ -8,13 +8,12 @@ use lib.ListN.{length, getD, take, drop, length-drop}
 use lib.Seq.{drop-cons, take-length}
 use Rattle.mealy.specs.Word.{Has, Holds}
 use Rattle.mealy.specs.Image.{Image, Transitions, Following, Leading, Reached}
-use Rattle.mealy.proofs.Words.{holds-map}
+use Rattle.mealy.proofs.Words.{holds-map, holds-none, holds-empty}
 use Rattle.mealy.proofs.Members.{holds-member}
 use Rattle.mealy.proofs.Leading.{Known, reached-leading, leading-reached}
 use Rattle.mealy.specs.Machine.{Letters}
-use Rattle.mealy.proofs.Images.{image-within, fitting-split}
+use Rattle.mealy.proofs.Images.{image-within, following-same, fitting-split}
 use Rattle.fitting.specs.Tables.{Leads, OnLetter, Between, FittingIn, TablesAsked}
-use Rattle.fitting.proofs.Steps.{following-same}
 
 -- where a state follows, there was one before
 pub following-some : (R : Transitions) (w : List ℕ) {P : ℕ → Type 0} (t : ℕ) → Following R P w t → (s : ℕ) × P s
@@ -117,3 +116,17 @@ window-fits next successors letters w b starts {set} {o} l e p h =
           (image-within (λ s t y. y) (p .has)) (r .t) (r .is);
     })
     h
+
+-- no state is left before the present letter: no letter fits
+pub none-fits :
+    (next successors letters w : List ℕ) (b starts : ℕ) → Holds (Following (Leads successors) (Has starts) (take b w)) 0 →
+    Holds (FittingIn next successors letters (Has starts) w b) 0
+none-fits next successors letters w b starts p =
+    holds-none (λ x f. go x (drop b w) (rw (fitting-split (Leads successors) (OnLetter next letters) (Has starts) w b x) at f))
+  where
+    go : (x : ℕ) (v : List ℕ) → FittingIn next successors letters (Following (Leads successors) (Has starts) (take b w)) v 0 x → ⊥
+    go x [] f = f
+    go x (o ∷ v) f =
+        let P = Following (Leads successors) (Has starts) (take b w) in
+        let q = following-some (Leads successors) v {P = Image (OnLetter next letters x o) P} (f .t) (f .is) in
+        holds-empty p refl (q .1 .s) (q .1 .from)

@@ -7,25 +7,17 @@ use native.Mathlib.Omega.{arith}
 use lib.ListN.{length, getD, drop}
 use lib.Seq.{drop-cons}
 use Rattle.mealy.specs.Word.{Has, Holds}
-use Rattle.mealy.specs.Image.{Image, Transitions, Following}
-use Rattle.mealy.proofs.Words.{holds-map, holds-none, has-empty}
+use Rattle.mealy.specs.Image.{Image, Transitions, Following, FarIn}
+use Rattle.mealy.proofs.Words.{holds-map, holds-none, holds-empty, has-empty}
 use Rattle.mealy.proofs.Members.{holds-member, holds-itself}
-use Rattle.mealy.proofs.Images.{Within, All, following-within, following-none}
+use Rattle.mealy.proofs.Images.{following-same, following-none}
+use Rattle.mealy.proofs.Possible.{far-none, far-later, far-states}
 
 pub drop-none : (w : List ℕ) (k : ℕ) → length w ≤ k → drop k w ≡ []
 drop-none [] zero l = refl
 drop-none [] (suc k) l = refl
 drop-none (x ∷ w) zero l = absurd (omega arith)
 drop-none (x ∷ w) (suc k) l = drop-none w k (omega arith)
-
--- the same letters from the same states
-module _ (R : Transitions) where
-  pub following-same : (w : List ℕ) {P P′ : ℕ → Type 0} → Within P P′ → Within (Following R P w) (Following R P′ w)
-  following-same w {P} {P′} = following-within R R (λ o. Unit {0}) (λ o s t y r. r) w (all w) {P = P} {P′ = P′}
-    where
-      all : (w : List ℕ) → All R R (λ o. Unit {0}) (λ o s t y r. r) w
-      all [] = tt
-      all (o ∷ w) = (tt, all w)
 
 -- the first k letters of w lead from `set` to `to`: what follows the others from there follows all of them
 pub record Followed (R : Transitions) (w : List ℕ) (set k to : ℕ) : Type 0 where
@@ -56,3 +48,37 @@ module _ {R : Transitions} {w : List ℕ} {set k to : ℕ} (a : Followed R w set
 
   pub followed-empty : to ≡ 0 → Holds (Following R (Has set) w) 0
   followed-empty e = a .rest 0 (holds-none (following-none R (drop k w) (λ s h. has-empty s (rw e at h))))
+
+-- ---- how far letters lead
+
+-- the first k letters of w lead from `set` to `to`, which is not empty: as far as the others lead from there, and k letters more
+pub record SoFar (R : Transitions) (w : List ℕ) (set k to : ℕ) : Type 0 where
+  pub bound : to < 65536
+  pub some : to ≡ 0 → ⊥
+  pub leads : (n m : ℕ) → k + n ≡ m → FarIn R (Has to) (drop k w) n → FarIn R (Has set) w m
+
+pub so-far-none : {R : Transitions} {w : List ℕ} {set : ℕ} → set < 65536 → (set ≡ 0 → ⊥) → SoFar R w set 0 set
+so-far-none l some = record { bound = l; some = some; leads = λ n m e h. let q : n ≡ m = omega arith in rw q at h }
+
+module _ {R : Transitions} {w : List ℕ} {set k to : ℕ} (a : SoFar R w set k to) where
+  module _ {o to′ : ℕ} (l : k < length w) (e : o ≡ getD w k 0) (h : Holds (Image (R o) (Has to)) to′) where
+    -- the next letter leads to some state
+    pub so-far-more : (to′ ≡ 0 → ⊥) → SoFar R w set (k + 1) to′
+    so-far-more some =
+        record {
+          bound = h .bound;
+          some = some;
+          leads = λ n m q f.
+              a .leads (suc n) m (omega arith)
+              (rw (drop-cons w k 0 l, ← e) (far-later (far-states R (drop (suc k) w) (holds-member h) (h .has) (rw add-one at f))));
+        }
+
+    -- or to none
+    pub so-far-stops : to′ ≡ 0 → FarIn R (Has set) w k
+    so-far-stops z =
+        a .leads 0 k (omega arith)
+        (rw (drop-cons w k 0 l, ← e) (far-none R (o ∷ drop (suc k) w) to (a .bound) (a .some) (λ m r. holds-empty h z (r .t) (r .is))))
+
+  -- none is left
+  pub so-far-all : length w ≤ k → FarIn R (Has set) w k
+  so-far-all l = a .leads 0 k (omega arith) (rw (drop-none w k l) (far-none R [] to (a .bound) (a .some) (λ m r. absurd (omega arith))))

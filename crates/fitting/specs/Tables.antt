@@ -8,14 +8,14 @@ use lib.ListN.{length, getD}
 use Rattle.mealy.specs.Machine.{Letters}
 use Rattle.mealy.specs.Word.{Has, Holds}
 use Rattle.mealy.specs.Image.{Transitions, Fitting}
-use Rattle.mealy.specs.Setting.{Bounded}
+use Rattle.mealy.specs.Setting.{Setting}
+use Rattle.mealy.specs.HowFar.{HowFar}
+use Rattle.mealy.specs.Answer.{Fits}
 use Rattle.coder.specs.Limits.{maxStates, maxOutputs}
 use Rattle.coder.specs.Table.{Sound}
 use Rattle.coder.specs.declared.inner.tables.Coder.{Coder}
 use Rattle.chains.specs.Parts.{placeParts}
-use Rattle.setting.specs.Words.{fromWord}
-use Rattle.fitting.specs.Answer.{Right}
-use Rattle.fitting.specs.declared.Answer.{Answer}
+use Rattle.setting.specs.Words.{fromWord, StartWord}
 
 -- the entry at place p, if there is one, has the value x
 abbrev pub Gives : List ℕ → ℕ → ℕ → ℕ → Type 0
@@ -87,12 +87,12 @@ pub record SetsOf (c : Coder) (successors predecessors letters : List ℕ) : Typ
   pub predecessors-are : ByOutput (c .next) (placeParts false) (c .output) (c .states) (c .inputs) predecessors
   pub letters-are : ByOutput (placeParts false) (placeParts true) (c .output) (c .states) (c .inputs) letters
 
--- the arrays that the functions inside take are those of the coder c, and the start states of the word are states of it
+-- the arrays that the functions inside take are those of the coder c, and the start states of the word are states of it, at least one
 pub record TablesOf (c : Coder) (next successors predecessors letters : List ℕ) (starts : ℕ) : Type 0 where
   pub sound : Sound c
   pub next-is : next ≡ c .next
   pub sets : SetsOf c successors predecessors letters
-  pub starts-low : Bounded (fromWord c starts)
+  pub starts-are : StartWord c starts
 
 -- they are those of some coder
 pub record Tables (next successors predecessors letters : List ℕ) (starts : ℕ) : Type 0 where
@@ -107,7 +107,13 @@ PresentGiven next predecessors letters o set after r =
     (successors : List ℕ) → TablesAsked next successors predecessors letters →
     Holds (FittingIn next successors letters (Has set) (o ∷ after) 0) r
 
--- the right answer for runs that start in the states of the word, for every coder whose tables these are
-abbrev pub DecodeGiven : List ℕ → List ℕ → List ℕ → List ℕ → ℕ → List ℕ → ℕ → Answer → Type 0
-DecodeGiven next successors predecessors letters starts window b r =
-    (c : Coder) → TablesOf c next successors predecessors letters starts → Right (fromWord c starts) window b r
+-- what a window decodes to, for runs that start in the states of a setting: the letters that fit; and, where none does, how far it was
+-- possible
+pub record DecodedIn (S : Setting) (w : List ℕ) (b letters far : ℕ) : Type 0 where
+  pub fits : Holds (Fits S w b) letters
+  pub count : letters ≡ 0 → HowFar S w far
+
+-- for runs that start in the states of the word, and for every coder whose tables these are
+abbrev pub DecodeGiven : List ℕ → List ℕ → List ℕ → List ℕ → ℕ → List ℕ → ℕ → ℕ → ℕ → Type 0
+DecodeGiven next successors predecessors letters starts window b fit far =
+    (c : Coder) → TablesOf c next successors predecessors letters starts → DecodedIn (fromWord c starts) window b fit far

@@ -2,4 +2,4 @@
 pub mod tables; // tables.rt: the successors of a state and its letters, by output letter
 pub mod sets; // sets.rt: the states that follow a set of states
 pub mod answer; // answer.rt: the answer that a set of letters stands for
-pub mod window; // window.rt: the letters that fit, and the answer for a window
+pub mod window; // window.rt: the letters that fit a window, and how far it was possible

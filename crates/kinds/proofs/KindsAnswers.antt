@@ -1,17 +1,18 @@
--- The decoder's answer for kinds: there is one at most, and without the kinds it is the decoder's answer for letters.
+-- The decoder's answer for kinds: there is one at most, and without the kinds, and as a byte, it is the decoder's answer for letters.
 use mathlib.Core.Path.{_≡_, refl, sym, ap, _∙_}
 use mathlib.Core.List.{List}
 use Prim.Native.Nat.{ℕ}
 use Rattle.mealy.specs.Setting.{Setting}
-use Rattle.mealy.specs.Answer.{Answer, Alone, Two, Answers}
+use Rattle.mealy.specs.Answer.{Answer, byteOf, Alone, Two, Answers}
+use Rattle.mealy.proofs.Answers.{answer-unique}
 use Rattle.kinds.specs.KindsAnswer.{KindsAnswer, letter, kindOnly, several, none, OneKind, TwoKinds, KindsAnswers}
 
--- the answer of the decoder of letters
-abbrev pub forget : KindsAnswer → Answer
-forget (letter x) = Answer.letter x
-forget (kindOnly κ) = Answer.several
-forget several = Answer.several
-forget none = Answer.none
+-- the byte that the decoder of letters has for the window
+abbrev pub letterByte : KindsAnswer → ℕ
+letterByte (letter x) = x
+letterByte (kindOnly κ) = 255
+letterByte several = 255
+letterByte none = 254
 
 module _ (S : Setting) (kind : ℕ → ℕ) (w : List ℕ) (b : ℕ) where
   -- ---- at most one
@@ -43,10 +44,15 @@ module _ (S : Setting) (kind : ℕ → ℕ) (w : List ℕ) (b : ℕ) where
   kinds-answer-unique none several p q = absurd (p _ (q .fits₁))
   kinds-answer-unique none none p q = refl
 
-  -- ---- with the kinds forgotten, the answer for letters
+  -- ---- with the kinds forgotten, the byte of the answer for letters
 
-  pub kinds-letters : (v : KindsAnswer) → KindsAnswers S kind w b v → Answers S w b (forget v)
-  kinds-letters (letter x) p = p
-  kinds-letters (kindOnly κ) p = p .two
-  kinds-letters several p = record { x = p .x; y = p .y; fits₁ = p .fits₁; fits₂ = p .fits₂; differ = λ e. p .differ (ap kind e) }
-  kinds-letters none p = p
+  pub kinds-letters : (v : KindsAnswer) (u : Answer) → KindsAnswers S kind w b v → Answers S w b u → byteOf u ≡ letterByte v
+  kinds-letters (letter x) u p q = ap byteOf (answer-unique S w b u (Answer.letter x) q p)
+  kinds-letters (kindOnly κ) u p q = ap byteOf (answer-unique S w b u Answer.several q (p .two))
+  kinds-letters several u p q =
+      ap byteOf
+      (answer-unique S w b u Answer.several q
+      (record { x = p .x; y = p .y; fits₁ = p .fits₁; fits₂ = p .fits₂; differ = λ e. p .differ (ap kind e) }))
+  kinds-letters none (Answer.letter y) p q = absurd (p y (q .fits))
+  kinds-letters none (Answer.none k) p q = refl
+  kinds-letters none Answer.several p q = absurd (p (q .x) (q .fits₁))

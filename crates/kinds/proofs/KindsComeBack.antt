@@ -12,8 +12,7 @@ use Rattle.mealy.specs.Machine.{outs, end, Letters}
 use Rattle.mealy.specs.Setting.{Setting, Closed}
 use Rattle.mealy.specs.Window.{Works}
 use Rattle.mealy.specs.Answer.{Fits}
-use Rattle.mealy.proofs.Answers.{length-outs}
-use Rattle.mealy.proofs.ComesBack.{take-outs, drop-outs, letters-take, letters-drop, end-start}
+use Rattle.mealy.proofs.RunParts.{length-outs, take-outs, drop-outs, letters-take, letters-drop, end-start}
 use Rattle.kinds.specs.Kinds.{tellCarried}
 use Rattle.kinds.specs.KindsAnswer.{KindsAnswer, letter, kindOnly, several, none, KindsAnswers, Yields}
 

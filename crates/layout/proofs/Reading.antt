@@ -1,4 +1,5 @@
--- A host reads back what was written: field k of a result is the k-th number, where that is one that 8 bytes hold.
+-- A host reads back what was written: field k of a result is the k-th number, where that is one that 8 bytes hold; and past the fields what was
+-- there.
 use mathlib.Core.Path.{_≡_, refl, ap, _∙_}
 use mathlib.Core.List.{List, [], _∷_, _++_}
 use Prim.Native.Nat.{ℕ, zero, suc, _*_, _<_}
@@ -21,3 +22,14 @@ pub field-at :
     (result ns : List ℕ) (k : ℕ) → k < length ns → getD ns k 0 < 18446744073709551616 →
     fieldAt (withFields result ns) k ≡ getD ns k 0
 field-at result ns k l m = ap fromBigEndian (place ns _ k l) ∙ number-back 8 (getD ns k 0) m
+
+-- what stands past the fields stays
+past : (ns rest : List ℕ) → drop (8 * length ns) (fieldsOf ns ++ rest) ≡ rest
+unfolding fieldsOf bigEndian
+past [] rest = refl
+past (n ∷ ns) rest =
+    let e : 8 * suc (length ns) ≡ suc (suc (suc (suc (suc (suc (suc (suc (8 * length ns)))))))) = omega arith in
+    rw e (past ns rest)
+
+pub past-fields : (result ns : List ℕ) → drop (8 * length ns) (withFields result ns) ≡ drop (8 * length ns) result
+past-fields result ns = past ns (drop (8 * length ns) result)

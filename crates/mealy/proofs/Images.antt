@@ -4,8 +4,9 @@ use mathlib.Core.List.{List, [], _∷_}
 use Prim.Native.Nat.{ℕ, zero, suc, _<_}
 use native.Mathlib.Omega.{arith}
 use lib.ListN.{length, getD, take, drop}
-use Rattle.mealy.specs.Machine.{Machine, outs, end, Letters}
+use Rattle.mealy.specs.Machine.{Machine, outs, end, Letters, Total}
 use Rattle.mealy.specs.Setting.{Setting, Bounded}
+use Rattle.mealy.specs.HowFar.{SomeRun}
 use Rattle.mealy.specs.Answer.{Fits}
 use Rattle.mealy.specs.Image.{Image, Transitions, Following, Fitting, Entry, Successor}
 
@@ -42,6 +43,14 @@ module _ (R R′ : Transitions) (Open : ℕ → Type 0) (f : (o s t : ℕ) → O
   fitting-within E E′ h (o ∷ w) a (suc b) x {P} {P′} g p =
       fitting-within E E′ h w (a .1) b x {P = Image (R o) P} {P′ = Image (R′ o) P′} (image-within (λ s t. f o s t (a .0)) g) p
 
+-- the same letters from the same states
+pub following-same : (R : Transitions) (w : List ℕ) {P P′ : ℕ → Type 0} → Within P P′ → Within (Following R P w) (Following R P′ w)
+following-same R w {P} {P′} = following-within R R (λ o. Unit {0}) (λ o s t y r. r) w (all w) {P = P} {P′ = P′}
+  where
+    all : (w : List ℕ) → All R R (λ o. Unit {0}) (λ o s t y r. r) w
+    all [] = tt
+    all (o ∷ w) = (tt, all w)
+
 -- from no state there is none
 pub following-none : (R : Transitions) (w : List ℕ) {P : ℕ → Type 0} → ((s : ℕ) → P s → ⊥) → (t : ℕ) → Following R P w t → ⊥
 following-none R [] h = h
@@ -62,17 +71,10 @@ fitting-split R E P (o ∷ w) (suc b) x = fitting-split R E (Image (R o) P) w b 
 abbrev from : Setting → (ℕ → Type 0) → Setting
 from S P = record { M = S .M; Start = P; Conflict = S .Conflict }
 
--- a run from P with outputs w
-record RunOf (M : Machine) (P : ℕ → Type 0) (w : List ℕ) : Type 0 where
-  s : ℕ
-  xs : List ℕ
-  start : P s
-  letters : Letters (M .inputs) xs
-  outputs : outs M s xs ≡ w
-
 -- one entry in front
-longer : (M : Machine) (P : ℕ → Type 0) (o : ℕ) (w : List ℕ) → RunOf M (Image (Successor M o) P) w → RunOf M P (o ∷ w)
-longer M P o w r =
+longer :
+    (S : Setting) (P : ℕ → Type 0) (o : ℕ) (w : List ℕ) → SomeRun (from S (Image (Successor (S .M) o) P)) w → SomeRun (from S P) (o ∷ w)
+longer S P o w r =
     let i = r .start in
     let e = i .step .entry in
     record {
@@ -80,12 +82,12 @@ longer M P o w r =
       xs = i .step .x ∷ r .xs;
       start = i .from;
       letters = (e .letter, r .letters);
-      outputs = ap₂ _∷_ (e .output) (ap (λ t. outs M t (r .xs)) (e .to) ∙ r .outputs);
+      outputs = ap₂ _∷_ (e .output) (ap (λ t. outs (S .M) t (r .xs)) (e .to) ∙ r .outputs);
     }
 
-following-run : (M : Machine) (P : ℕ → Type 0) (w : List ℕ) (t : ℕ) → Following (Successor M) P w t → RunOf M P w
-following-run M P [] t h = record { s = t; xs = []; start = h; letters = tt; outputs = refl }
-following-run M P (o ∷ w) t h = longer M P o w (following-run M (Image (Successor M o) P) w t h)
+pub following-run : (S : Setting) (P : ℕ → Type 0) (w : List ℕ) (t : ℕ) → Following (Successor (S .M)) P w t → SomeRun (from S P) w
+following-run S P [] t h = record { s = t; xs = []; start = h; letters = tt; outputs = refl }
+following-run S P (o ∷ w) t h = longer S P o w (following-run S (Image (Successor (S .M) o) P) w t h)
 
 module _ (S : Setting) where
   abbrev M : Machine
@@ -95,7 +97,7 @@ module _ (S : Setting) where
   unfolding longer
   fitting-fits [] b x P h = absurd h
   fitting-fits (o ∷ w) zero x P h =
-      let r = following-run M (Image (Entry M x o) P) w (h .t) (h .is) in
+      let r = following-run S (Image (Entry M x o) P) w (h .t) (h .is) in
       let i = r .start in
       let e = i .step in
       record {
@@ -109,7 +111,7 @@ module _ (S : Setting) where
       }
   fitting-fits (o ∷ w) (suc b) x P h =
       let f = fitting-fits w b x (Image (Successor M o) P) h in
-      let r = longer M P o w (record { s = f .s; xs = f .xs; start = f .start; letters = f .letters; outputs = f .outputs }) in
+      let r = longer S P o w (record { s = f .s; xs = f .xs; start = f .start; letters = f .letters; outputs = f .outputs }) in
       record {
         s = r .s;
         xs = r .xs;
@@ -120,11 +122,11 @@ module _ (S : Setting) where
         letter = f .letter;
       }
 
-  module _ (total : (s i : ℕ) → M .next s i < M .states) where
+  module _ (total : Total M) where
     step : (o s x : ℕ) → s < M .states → x < M .inputs → M .out s x ≡ o → Entry M x o s (M .next s x)
     step o s x k l e = record { state = k; letter = l; output = e; to = refl }
 
-    run-following :
+    pub run-following :
         (w xs : List ℕ) (s : ℕ) (P : ℕ → Type 0) → Within P (λ t. t < M .states) → P s → Letters (M .inputs) xs →
         outs M s xs ≡ w → Following (Successor M) P w (end M s xs)
     run-following [] [] s P k p l e = p
@@ -132,7 +134,7 @@ module _ (S : Setting) where
     run-following (o ∷ w) [] s P k p l e = absurd (let z : _≡_ {A = ℕ} 0 1 = cc in omega arith)
     run-following (o ∷ w) (x ∷ xs) s P k p l e =
         run-following w xs (M .next s x) (Image (Successor M o) P)
-        (λ t i. let y = i .step .entry in rw (← y .to) (total (i .s) (i .step .x)))
+        (λ t i. let y = i .step .entry in rw (← y .to) (total (i .s) (i .step .x) (y .state) (y .letter)))
         (record { s = s; from = p; step = record { x = x; entry = step o s x (k s p) (l .0) (cc) } }) (l .1) (cc)
 
     pub run-fitting :
@@ -145,12 +147,12 @@ module _ (S : Setting) where
           t = end M (M .next s x) xs;
           is =
               run-following w xs (M .next s x) (Image (Entry M x o) P)
-              (λ t i. let y = i .step in rw (← y .to) (total (i .s) x))
+              (λ t i. let y = i .step in rw (← y .to) (total (i .s) x (y .state) (y .letter)))
               (record { s = s; from = p; step = step o s x (k s p) (l .0) (cc) }) (l .1) (cc);
         }
     run-fitting (o ∷ w) (x ∷ xs) (suc b) s P k p l e n =
         run-fitting w xs b (M .next s x) (Image (Successor M o) P)
-        (λ t i. let y = i .step .entry in rw (← y .to) (total (i .s) (i .step .x)))
+        (λ t i. let y = i .step .entry in rw (← y .to) (total (i .s) (i .step .x) (y .state) (y .letter)))
         (record { s = s; from = p; step = record { x = x; entry = step o s x (k s p) (l .0) (cc) } }) (l .1) (cc) (omega arith)
 
     pub fits-fitting :

@@ -16,6 +16,8 @@ pub mod PairParts
 pub mod PairWalks
 pub mod PairDecisions
 pub mod LoopedPairs
+pub mod RunParts
+pub mod Possible
 pub mod Answers
 pub mod Indices
 pub mod ReachableStates
@@ -30,6 +32,7 @@ pub mod Words
 pub mod Images
 pub mod OneMore
 pub mod Members
+pub mod ImageWords
 pub mod StepWords
 pub mod Leading
 pub mod StartStates

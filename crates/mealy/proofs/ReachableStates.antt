@@ -9,7 +9,7 @@ use Rattle.mealy.specs.Machine.{Machine, end, Letters, Total}
 use Rattle.mealy.specs.Reachable.{Reachable, EntryTo}
 use Rattle.mealy.specs.Setting.{Setting}
 use Rattle.mealy.specs.Image.{Image}
-use Rattle.mealy.proofs.ComesBack.{end-start}
+use Rattle.mealy.proofs.RunParts.{end-start}
 use Rattle.mealy.proofs.Decisions.{dec-below}
 use Rattle.mealy.proofs.Sums.{stops-rising}
 

@@ -3,10 +3,12 @@ use mathlib.Core.Path.{_≡_, refl, sym, ap, ap₂, _∙_}
 use mathlib.Core.List.{List, [], _∷_}
 use Prim.Native.Nat.{ℕ, zero, suc, _+_, _≤_, _<_}
 use native.Mathlib.Omega.{arith}
+use lib.ListN.{take}
 use Rattle.mealy.specs.Machine.{Machine, outs, end, Letters}
 use Rattle.mealy.specs.Setting.{Setting, Closed, Same}
 use Rattle.mealy.specs.Window.{EqualOutputs, Works}
 use Rattle.mealy.specs.Order.{Relation, Least}
+use Rattle.mealy.specs.HowFar.{SomeRun, HowFar}
 use Rattle.mealy.specs.Answer.{Fits, Answer, letter, none, several, Answers}
 use Rattle.mealy.specs.First.{First}
 use Rattle.mealy.specs.LoopedPair.{LoopedPair, Run, first, second, letterAt, lettersFrom, mark, unlooped, letters, startOf, runInputs, Valid}
@@ -129,6 +131,16 @@ module _ {S T : Setting} (e : Same S T) where
         letter = f .letter;
       }
 
+  some-run-same : (w : List ℕ) → SomeRun S w → SomeRun T w
+  some-run-same w r =
+      record {
+        s = r .s;
+        xs = r .xs;
+        start = e .start _ (r .start);
+        letters = letters-same e (r .xs) (r .letters);
+        outputs = sym (outs-same e (r .s) (r .xs) (r .start) (r .letters)) ∙ r .outputs;
+      }
+
 module _ {S T : Setting} (e : Same S T) where
   pub least-same : (R : Relation) (b a : ℕ) → Least R S b a → Least R T b a
   least-same R b a l =
@@ -141,10 +153,18 @@ module _ {S T : Setting} (e : Same S T) where
   first-same p f =
       record { valid = valid-same e p (f .valid); first = λ q v. f .first q (valid-same (same-sym e) q v) }
 
+  pub far-same : (w : List ℕ) (k : ℕ) → HowFar S w k → HowFar T w k
+  far-same w k h =
+      record {
+        inside = h .inside;
+        possible = some-run-same e (take k w) (h .possible);
+        no-further = λ r. h .no-further (some-run-same (same-sym e) (take (suc k) w) r);
+      }
+
   pub answers-same : (w : List ℕ) (b : ℕ) (v : Answer) → Answers S w b v → Answers T w b v
   answers-same w b (letter x) h =
       record { fits = fits-same e w b x (h .fits); alone = λ y f. h .alone y (fits-same (same-sym e) w b y f) }
-  answers-same w b none h = λ x f. h x (fits-same (same-sym e) w b x f)
+  answers-same w b (none k) h = far-same w k h
   answers-same w b several h =
       record {
         x = h .x;

@@ -12,7 +12,7 @@ use Rattle.mealy.specs.Reachable.{StartAfter}
 use Rattle.mealy.specs.Setting.{Same, afterLetters}
 use Rattle.mealy.specs.Window.{Works}
 use Rattle.mealy.specs.Order.{Relation, Least}
-use Rattle.mealy.proofs.ComesBack.{letters-take, equal-from}
+use Rattle.mealy.proofs.RunParts.{letters-take, equal-from}
 use Rattle.mealy.proofs.SameSettings.{same-starts}
 use Rattle.mealy.proofs.StartStates.{start-along, start-down, after-closed, start-unchanged}
 

@@ -14,7 +14,7 @@ use Rattle.mealy.specs.Setting.{Closed, Bounded, Same, fromReachable, af
 use Rattle.mealy.specs.Image.{Image}
 use Rattle.mealy.proofs.Levels.{down, always}
 use Rattle.mealy.proofs.Sums.{stops-shrinking}
-use Rattle.mealy.proofs.ComesBack.{letters-take}
+use Rattle.mealy.proofs.RunParts.{letters-take}
 use Rattle.mealy.proofs.Images.{image-within}
 use Rattle.mealy.proofs.SameSettings.{same-starts}
 use Rattle.mealy.proofs.ReachableStates.{end-append, letters-both, dec-image, reachable-zero, reachable-along, reachable-closed, reachable-bounded, dec-reachable}
@@ -112,7 +112,7 @@ module _ (M : Machine) where
   pub after-closed : (p : ℕ) → Closed (afterLetters M p)
   after-closed p s i h l = start-fall p (M .next s i) (start-step p s i h l)
 
-  start-some : 0 < M .inputs → (p : ℕ) → (s : ℕ) × StartAfter M p s
+  pub start-some : 0 < M .inputs → (p : ℕ) → (s : ℕ) × StartAfter M p s
   start-some l p = (
     end M 0 (replicate p 0),
     record {

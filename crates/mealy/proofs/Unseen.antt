@@ -1,4 +1,4 @@
--- Windows and what fits, with no setting: runs from reachable states whose first p outputs are unseen.
+-- Windows, what fits and what some run gives, with no setting: runs from reachable states whose first p outputs are unseen.
 use mathlib.Core.Path.{_≡_, refl, sym, ap, _∙_}
 use mathlib.Core.Logic.{_↔_}
 use mathlib.Core.List.{List, _++_}
@@ -11,8 +11,9 @@ use Rattle.mealy.specs.Machine.{Machine, outs, end, Letters}
 use Rattle.mealy.specs.Reachable.{Reachable, StartAfter}
 use Rattle.mealy.specs.Setting.{afterLetters}
 use Rattle.mealy.specs.Window.{Works, SameLetter}
+use Rattle.mealy.specs.HowFar.{SomeRun, SomeRunAfter}
 use Rattle.mealy.specs.Answer.{Fits, FitsAfter}
-use Rattle.mealy.proofs.ComesBack.{drop-outs, letters-drop, equal-from}
+use Rattle.mealy.proofs.RunParts.{length-outs, drop-outs, letters-drop, equal-from}
 use Rattle.mealy.proofs.ReachableStates.{letters-both}
 use Rattle.mealy.proofs.StartStates.{start-take}
 
@@ -84,5 +85,27 @@ module _ (M : Machine) where
           outputs = sym (drop-outs M (f .s) p (f .xs)) ∙ f .outputs;
           inside = omega (arith, length-drop p (f .xs), f .inside);
           letter = getD-drop p (f .xs) b 0 ∙ f .letter;
+        }),
+  )
+
+  pub some-run↔after : (p : ℕ) (w : List ℕ) → SomeRun (afterLetters M p) w ↔ SomeRunAfter M p w
+  some-run↔after p w = (
+    (λ r.
+        let z = ahead p (r .s) (r .xs) (r .start) (r .letters) in
+        record {
+          s = z .from;
+          xs = z .all;
+          reachable = z .reachable;
+          letters = z .letters;
+          count = omega (arith, z .count, length-outs M (r .s) (r .xs), ap length (r .outputs));
+          outputs = z .outputs ∙ r .outputs;
+        }),
+    (λ r.
+        record {
+          s = end M (r .s) (take p (r .xs));
+          xs = drop p (r .xs);
+          start = start-take M p p (r .s) (r .xs) (omega arith) (omega (arith, r .count)) (r .reachable) (r .letters);
+          letters = letters-drop (M .inputs) p (r .xs) (r .letters);
+          outputs = sym (drop-outs M (r .s) p (r .xs)) ∙ r .outputs;
         }),
   )

@@ -9,7 +9,7 @@ use Rattle.mealy.specs.Setting.{Setting, Closed}
 use Rattle.mealy.specs.Product.{Edge}
 use Rattle.mealy.specs.LoopedPair.{repeat}
 use Rattle.mealy.specs.Walk.{Walk}
-use Rattle.mealy.proofs.ComesBack.{end-start}
+use Rattle.mealy.proofs.RunParts.{end-start}
 use Rattle.mealy.proofs.Edges.{equal-nil, equal-cons, equal-edge, equal-tail}
 
 pub walk-nil : {M : Machine} {s t : ℕ} → Walk M s t [] [] s t

@@ -7,6 +7,7 @@ use lib.ListN.{length, getD, drop}
 use Rattle.mealy.specs.Machine.{Machine, outs, Letters}
 use Rattle.mealy.specs.Reachable.{Reachable}
 use Rattle.mealy.specs.Setting.{Setting}
+use Rattle.mealy.specs.HowFar.{HowFar}
 
 -- Document 01's term "fits" ("Decoding", first sentence): some run from a start state with the outputs w has the letter x at place b.
 pub record Fits (S : Setting) (w : List ℕ) (b x : ℕ) : Type 0 where
@@ -30,20 +31,17 @@ pub record FitsAfter (M : Machine) (p : ℕ) (w : List ℕ) (b x : ℕ) : Type 0
   pub inside : p + b < length xs
   pub letter : getD xs (p + b) 0 ≡ x
 
--- The three answers ("Decoding", second sentence), and each one's byte (third sentence).
+-- The three answers ("Decoding", second sentence), none with how many letters were possible (document 02, 9/13, second sentence); and each
+-- one's byte ("Decoding", third sentence), whatever the count is (9/13, third sentence).
 pub data Answer : Type 0 where
   letter : ℕ → Answer
-  none : Answer
+  none : ℕ → Answer
   several : Answer
 
 abbrev pub byteOf : Answer → ℕ
 byteOf (letter x) = x
-byteOf none = 254
+byteOf (none k) = 254
 byteOf several = 255
-
--- no run from a start state gives the outputs w
-abbrev pub NoRun : Setting → List ℕ → Type 0
-NoRun S w = (s : ℕ) (xs : List ℕ) → S .Start s → Letters (S .M .inputs) xs → outs (S .M) s xs ≡ w → ⊥
 
 -- x fits, and nothing else does
 pub record Alone (S : Setting) (w : List ℕ) (b x : ℕ) : Type 0 where
@@ -58,8 +56,9 @@ pub record Two (S : Setting) (w : List ℕ) (b : ℕ) : Type 0 where
   pub fits₂ : Fits S w b y
   pub differ : x ≢ y
 
--- Demand 2, second sentence: the letter that alone fits; none where no run gives the outputs; several otherwise.
+-- Demand 2, second sentence: the letter that alone fits; none where no run gives the outputs, which is where there is a count
+-- (`far-no-run`, `far-word`); several otherwise.
 abbrev pub Answers : Setting → List ℕ → ℕ → Answer → Type 0
 Answers S w b (letter x) = Alone S w b x
-Answers S w b none = (x : ℕ) → Fits S w b x → ⊥
+Answers S w b (none k) = HowFar S w k
 Answers S w b several = Two S w b

@@ -1,7 +1,8 @@
 -- Sets of states, one received letter after the other, and the letters that fit.
-use Prim.Native.Nat.{ℕ, zero, suc, _<_}
+use Prim.Native.Nat.{ℕ, zero, suc, _<_, _≤_}
 use mathlib.Core.Path.{_≡_}
 use mathlib.Core.List.{List, [], _∷_}
+use lib.ListN.{length, take}
 use Rattle.mealy.specs.Machine.{Machine}
 
 -- the numbers that Q leads to from the set P
@@ -28,6 +29,12 @@ Leading Q P (o ∷ w) = Image (Q o) (Leading Q P w)
 pub record Reached (R : Transitions) (P : ℕ → Type 0) (w : List ℕ) : Type 0 where
   pub t : ℕ
   pub is : Following R P w t
+
+-- n letters of w, from the first on, lead to some state from P, and one more leads to none
+pub record FarIn (R : Transitions) (P : ℕ → Type 0) (w : List ℕ) (n : ℕ) : Type 0 where
+  pub within : n ≤ length w
+  pub reached : Reached R P (take n w)
+  pub stops : n < length w → Reached R P (take (suc n) w) → ⊥
 
 -- The letter x fits at place b of the letters w: E x has the transitions on input letter x, R those on any.
 abbrev pub Fitting : Transitions → (ℕ → Transitions) → (ℕ → Type 0) → List ℕ → ℕ → ℕ → Type 0

@@ -88,31 +88,31 @@ module _ (c : Coder) (sound : Sound c) {backs forwards : List (List ℕ)} where
 -- ---- a kind of which no two letters differ
 
 -- the words of no letter and of one
-answer-none : (u : ℕ) → answerOf u ≡ Answer.None → u ≡ 0
+answer-none : (u k : ℕ) → answerOf u 0 ≡ Answer.None k → u ≡ 0
 unfolding answerOf
-answer-none u = go (eqb u 0) (eqb u (2 ^ greatest u)) refl
+answer-none u k = go (eqb u 0) (eqb u (2 ^ greatest u)) refl
   where
-    go : (s t : Bool) → eqb u 0 ≡ s → cond s Answer.None (cond t (Answer.Letter (greatest u)) Answer.Several) ≡ Answer.None → u ≡ 0
+    go : (s t : Bool) → eqb u 0 ≡ s → cond s (Answer.None 0) (cond t (Answer.Letter (greatest u)) Answer.Several) ≡ Answer.None k → u ≡ 0
     go true t e d = eqb-true u 0 e
     go false true e d = let z : _≡_ {A = ℕ} 0 1 = cc in absurd (omega arith)
     go false false e d = let z : _≡_ {A = ℕ} 0 1 = cc in absurd (omega arith)
 
-answer-letter : (u x : ℕ) → answerOf u ≡ Answer.Letter x → u ≡ 2 ^ greatest u
+answer-letter : (u x : ℕ) → answerOf u 0 ≡ Answer.Letter x → u ≡ 2 ^ greatest u
 unfolding answerOf
 answer-letter u x = go (eqb u 0) (eqb u (2 ^ greatest u)) refl
   where
     go :
         (s t : Bool) → eqb u (2 ^ greatest u) ≡ t →
-        cond s Answer.None (cond t (Answer.Letter (greatest u)) Answer.Several) ≡ Answer.Letter x → u ≡ 2 ^ greatest u
+        cond s (Answer.None 0) (cond t (Answer.Letter (greatest u)) Answer.Several) ≡ Answer.Letter x → u ≡ 2 ^ greatest u
     go true t e d = let z : _≡_ {A = ℕ} 0 1 = cc in absurd (omega arith)
     go false true e d = eqb-true u (2 ^ greatest u) e
     go false false e d = let z : _≡_ {A = ℕ} 0 1 = cc in absurd (omega arith)
 
 module _ {P : ℕ → Type 0} {u : ℕ} (h : Holds P u) where
-  pub no-letters : answerOf u ≡ Answer.None → (i j : ℕ) → P i → P j → i ≡ j
-  no-letters e i j p q = absurd (holds-empty h (answer-none u e) i p)
+  pub no-letters : (k : ℕ) → answerOf u 0 ≡ Answer.None k → (i j : ℕ) → P i → P j → i ≡ j
+  no-letters k e i j p q = absurd (holds-empty h (answer-none u k e) i p)
 
-  pub one-letter : (x : ℕ) → answerOf u ≡ Answer.Letter x → (i j : ℕ) → P i → P j → i ≡ j
+  pub one-letter : (x : ℕ) → answerOf u 0 ≡ Answer.Letter x → (i j : ℕ) → P i → P j → i ≡ j
   one-letter x e i j p q =
       let d = answer-letter u x e in
       let alone : (y : ℕ) → P y → y ≡ greatest u = λ y r. has-alone y (greatest u) (subst (λ z. Has z y) d (h .has y r)) in

@@ -8,15 +8,16 @@ use lib.ListN.{getD}
 use Rattle.mealy.specs.Machine.{Machine}
 use Rattle.mealy.specs.Word.{Has, Holds}
 use Rattle.mealy.specs.Setting.{Same, Closed, Bounded, afterLettersWith, worded}
+use Rattle.mealy.proofs.Words.{holds-empty}
 use Rattle.mealy.proofs.Members.{holds-member}
 use Rattle.mealy.proofs.SameSettings.{same-sym, same-starts}
-use Rattle.mealy.proofs.StartStates.{after-closed, after-bounded}
+use Rattle.mealy.proofs.StartStates.{after-closed, start-some, after-bounded}
 use Rattle.coder.specs.File.{machineOf}
 use Rattle.coder.specs.Table.{coderOf, machineOfCoder, Sound}
 use Rattle.coder.specs.declared.inner.tables.Coder.{Coder}
 use Rattle.coder.proofs.Accepted.{Accepted}
 use Rattle.coder.proofs.Tables.{machine-same, sound-coder}
-use Rattle.setting.specs.Words.{settingOfCoder, fromWord, startedIn, StartIn, WordsOf}
+use Rattle.setting.specs.Words.{settingOfCoder, fromWord, StartWord, startedIn, StartIn, WordsOf}
 
 -- the start states of a coder's tables are states of it
 coder-bounded : (c : Coder) → Sound c → (p : ℕ) → Bounded (settingOfCoder c p)
@@ -27,8 +28,14 @@ module _ (c : Coder) (p : ℕ) {starts : ℕ} (h : Holds (settingOfCoder c p .St
   pub same-word : Same (fromWord c starts) (settingOfCoder c p)
   same-word = same-sym (same-starts (machineOfCoder c) (λ i j. i ≢ j) (after-closed (machineOfCoder c) p) (h .has) (holds-member h))
 
-  pub word-bounded : Sound c → Bounded (fromWord c starts)
-  word-bounded sound s q = coder-bounded c sound p s (holds-member h s q)
+  pub start-word : Sound c → StartWord c starts
+  start-word sound =
+      let some = start-some (machineOfCoder c) (sound .inputs-low) p in
+      record {
+        bound = h .bound;
+        low = λ s q. coder-bounded c sound p s (holds-member h s q);
+        some = λ e. holds-empty h e (some .0) (some .1);
+      }
 
 -- the setting whose runs start in the states of the word is that of the coder, whichever letters conflict; D says the same of the coder's
 -- letters as C

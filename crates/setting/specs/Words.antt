@@ -5,7 +5,7 @@ use lib.ListN.{length, getD}
 use mathlib.Core.Path.{_≡_}
 use mathlib.Core.Logic.{_≢_}
 use Rattle.mealy.specs.Word.{Has, Holds}
-use Rattle.mealy.specs.Setting.{Setting, afterLetters}
+use Rattle.mealy.specs.Setting.{Setting, Bounded, afterLetters}
 use Rattle.coder.specs.Limits.{maxInputs}
 use Rattle.coder.specs.Table.{machineOfCoder}
 use Rattle.coder.specs.declared.inner.tables.Coder.{Coder}
@@ -17,6 +17,12 @@ settingOfCoder c p = afterLetters (machineOfCoder c) p
 -- The setting whose runs start in the states of a word, whatever these are.
 abbrev pub fromWord : Coder → ℕ → Setting
 fromWord c starts = record { M = machineOfCoder c; Start = Has starts; Conflict = λ i j. i ≢ j }
+
+-- what the word of a window's start states is: states of the coder, and at least one
+pub record StartWord (c : Coder) (starts : ℕ) : Type 0 where
+  pub bound : starts < 65536
+  pub low : Bounded (fromWord c starts)
+  pub some : starts ≡ 0 → ⊥
 
 -- s is a start state: one of the n states, and in the word
 abbrev pub StartIn : ℕ → ℕ → ℕ → Type 0

@@ -1,5 +1,5 @@
 -- The three demands hold.
-use mathlib.Core.Path.{_≡_, refl, subst, _∙_}
+use mathlib.Core.Path.{_≡_, refl, ap, subst, _∙_}
 use mathlib.Core.Bool.{Bool, true}
 use mathlib.Core.List.{List, [], _++_}
 use Prim.Native.Nat.{ℕ, zero, suc, _+_, _<_, _≤_}
@@ -11,7 +11,10 @@ use Rattle.mealy.specs.Setting.{Setting}
 use Rattle.mealy.specs.Answer as theory
 use Rattle.mealy.specs.Answer.{Answers, byteOf}
 use Rattle.mealy.specs.Index.{windowAt}
-use Rattle.mealy.proofs.Answers.{length-outs, answer-unique, none↔no-run}
+use Rattle.mealy.specs.HowFar.{NoRun, HowFar}
+use Rattle.mealy.proofs.Possible.{far-no-run}
+use Rattle.mealy.proofs.Answers.{answer-unique, no-fit↔no-run}
+use Rattle.mealy.proofs.RunParts.{length-outs}
 use Rattle.mealy.proofs.Indices.{length-window}
 use Rattle.mealy.proofs.Letters.{letter-at}
 use Rattle.coder.proofs.Accepted.{accepted}
@@ -54,6 +57,7 @@ use Rattle.published.proofs.Published.{file-published, run-published, search-pu
 use Rattle.published.proofs.Published.{string-published, table-published, search-kinds-published, window-kinds-published}
 use Rattle.published.proofs.Published.{write-published, result-published}
 use Rattle.theorems.proofs.Counted.{counted}
+use Rattle.theorems.proofs.Answered.{AnsweredBy, window-answered, answered-from-C, byte-read}
 use Rattle.theorems.proofs.HostReads.{first-read, search-found}
 use Rattle.theorems.proofs.RoundTrip.{round-trip}
 use Rattle.theorems.proofs.HostRoundTrip.{host-round-trip}
@@ -139,39 +143,10 @@ run-done f s xs before n e after p = go (runRefusalIn f s xs (length before) tru
         (q, (cc), rw (b, q) (take-at o (drop (length xs) before) (length xs) (length-outs (machineOf f) s xs)))
     go (suc k) d b = let z : _≡_ {A = ℕ} 0 1 = cc in absurd (omega arith)
 
--- a window that was answered was not refused
-window-answered :
-    (f : List ℕ) (w : Window) (received : List ℕ) (v : Answer) →
-    WindowPromise f w received (window-result.the-variants.Answered v) →
-    (windowRefusal f w received true ≡ 0) × Answers (windowSetting f w) received (w .before) (meaning v)
-window-answered f w received v = go (windowRefusal f w received true) refl
-  where
-    go :
-        (k : ℕ) → windowRefusal f w received true ≡ k →
-        upon k (λ j. window-result.the-variants.Answered v ≡ window-result.the-variants.Refused j)
-        (AnsweredRight f w received (window-result.the-variants.Answered v)) →
-        (windowRefusal f w received true ≡ 0) × Answers (windowSetting f w) received (w .before) (meaning v)
-    go zero e p =
-        let d = p .is in
-        let q : v ≡ p .answer = cc in
-        (e, rw q (p .right))
-    go (suc k) e p = let z : _≡_ {A = ℕ} 0 1 = cc in absurd (omega arith)
-
 bytes-said : (x : theory.Answer) → byteOf x ≡ byteSaid x
 bytes-said (theory.letter x) = refl
-bytes-said theory.none = refl
+bytes-said (theory.none k) = refl
 bytes-said theory.several = refl
-
-inputs-few : (f : List ℕ) → fileRefusal f ≡ 0 → machineOf f .inputs ≤ 16
-unfolding machineOf
-inputs-few f z = accepted f z .entries .limits .inputs-high
-
--- the byte of a right answer is a byte, where letters are below 16
-byte-small : (S : Setting) (w : List ℕ) (b : ℕ) → S .M .inputs ≤ 16 → (v : theory.Answer) → Answers S w b v → byteOf v < 256
-byte-small S w b l (theory.letter x) h =
-    omega (arith, letter-at (S .M .inputs) (h .fits .xs) (h .fits .letters) b (h .fits .inside), h .fits .letter)
-byte-small S w b l theory.none h = omega arith
-byte-small S w b l theory.several h = omega arith
 
 -- a right answer is what the second sentence says
 said : (S : Setting) (w : List ℕ) (b : ℕ) → b < length w → (v : theory.Answer) → Answers S w b v → Said S w b v
@@ -179,51 +154,48 @@ said S w b l v h =
     record {
       right = h;
       letter = λ x a. answer-unique S w b v (theory.letter x) h a;
-      none = λ n. answer-unique S w b v theory.none h (none↔no-run S w b l .1 n);
+      none = none-said v h;
       several = λ two. answer-unique S w b v theory.several h two;
-      no-run = λ e. none↔no-run S w b l .0 (rw e at h);
+      no-run = λ k e. far-no-run (none-of k e);
+      count = λ k e. (none-of k e .inside, none-of k e .possible, none-of k e .no-further);
     }
+  where
+    none-of : (k : ℕ) → v ≡ theory.none k → HowFar S w k
+    none-of k e = rw e at h
+
+    none-said : (u : theory.Answer) → Answers S w b u → NoRun S w → (k : ℕ) × (u ≡ theory.none k)
+    none-said (theory.letter x) r n = absurd (no-fit↔no-run S w b l .1 n x (r .fits))
+    none-said (theory.none k) r n = (k, refl)
+    none-said theory.several r n = absurd (no-fit↔no-run S w b l .1 n (r .x) (r .fits₁))
 
 said-byte : (S : Setting) (w : List ℕ) (b v : ℕ) → b < length w → RightByte S w b v → SaidByte S w b v
 said-byte S w b v l r = record { answer = r .answer; said = said S w b l (r .answer) (r .right); byte = r .byte ∙ bytes-said (r .answer) }
 
--- from C
+-- of one window, own and from C
+window-said :
+    (f : List ℕ) (w : Window) (received : List ℕ) (v : Answer) → AnsweredBy f w received v →
+    Said (windowSetting f w) received (w .before) (meaning v)
+window-said f w received v a =
+    let long = a .accepted-call .long in
+    said (windowSetting f w) received (w .before) (omega arith) (meaning v) (a .right)
+
 window-read :
     (f : List ℕ) (w : Window) (received result result′ : List ℕ) → WindowFromHost f w received result 0 result′ →
     SaidByte (windowSetting f w) received (w .before) (fieldAt result′ 0)
 window-read f w received result result′ h =
-    let g =
-    answered-host (WindowWith f w received) laidWindow (λ others own. window-enough f w received others own) refl h in
-    go (g .own) (windowRefusal f w received true) (g .promised) (g .promised) (g .out)
-  where
-    go :
-        (own : WindowResult) (k : ℕ) → upon k (λ j. own ≡ window-result.the-variants.Refused j) (AnsweredRight f w received own) →
-        WindowPromise f w received own → LaidOut (laidWindow own) result 0 result′ →
-        SaidByte (windowSetting f w) received (w .before) (fieldAt result′ 0)
-    go (window-result.the-variants.Answered v) k q p out =
-        let a = window-answered f w received v p in
-        let c = window-accepted f w received true (a .0) in
-        let small = byte-small (windowSetting f w) received (w .before) (inputs-few f (c .limits .file)) (meaning v) (a .1) in
-        let read = first-read result (laidWindow (window-result.the-variants.Answered v)) (byteOf (meaning v)) [] refl (omega arith) out in
-        let long = c .long in
-        record {
-          answer = meaning v;
-          said = said (windowSetting f w) received (w .before) (omega arith) (meaning v) (a .1);
-          byte = read .1 ∙ bytes-said (meaning v);
-        }
-    go (window-result.the-variants.Refused j) zero q p out = let d = q .is in let z : _≡_ {A = ℕ} 0 1 = cc in absurd (omega arith)
-    go (window-result.the-variants.Refused j) (suc k) q p out =
-        let e = out .number in
-        let z : j ≡ suc k = cc in
-        absurd (omega arith)
+    let c = answered-from-C f w received result result′ h in
+    let v = c .answer in
+    let a = window-answered f w received v (c .promised) in
+    record {
+      answer = meaning v;
+      said = window-said f w received v a;
+      byte = ap (λ (r : List ℕ). fieldAt r 0) (c .fields) ∙ byte-read f w received result v a ∙ bytes-said (meaning v);
+    }
 
 pub demand-2 : Demand2
 demand-2 = record {
   run = run-done;
-  window = λ f w received v p.
-      let h = window-answered f w received v p in
-      let long = window-accepted f w received true (h .0) .long in
-      said (windowSetting f w) received (w .before) (omega arith) (meaning v) (h .1);
+  window = λ f w received v p. window-said f w received v (window-answered f w received v p);
   string = λ f w received before n after p.
       let c = counted _ _ _ before n after p in (
         c .count,

@@ -1,11 +1,13 @@
 -- Theorems over the promises of several calls.
 pub mod Counted
 pub mod RoundTrip
+pub mod Answered
 pub mod HostReads
 pub mod HostRoundTrip
 pub mod Files
 pub mod TableLimit
 pub mod TableShows
+pub mod HowFarSaid
 pub mod SearchChecked
 pub mod Exists
 pub mod Tests

@@ -10,7 +10,7 @@ use lib.Seq.{take-at}
 use borrow.Author.Tests.{lt-ltb, le-leb}
 use Rattle.mealy.specs.Machine.{Machine, outs, end, Letters}
 use Rattle.mealy.specs.Product.{pairs}
-use Rattle.mealy.proofs.Answers.{length-outs}
+use Rattle.mealy.proofs.RunParts.{length-outs}
 use Rattle.mealy.proofs.ReachableStates.{reachable-along}
 use Rattle.coder.specs.Limits.{maxSide, maxSettle}
 use Rattle.coder.specs.Refusal.{lettersBelow}

@@ -51,7 +51,7 @@ use Rattle.fitting.specs.declared.Answer.{Answer}
 use Rattle.fitting.specs.declared.Answer.the-variants.{Letter, None, Several}
 use Rattle.fitting.proofs.Answers.{right-unique, right-byte, right-byte-unique}
 use Rattle.filling.specs.Sets.{contribution, gather, add, added}
-use Rattle.filling.specs.Window.{pass, unionOf, fittingWord, decoded}
+use Rattle.filling.specs.Window.{pass, unionOf, fittingWord}
 use Rattle.decoder_refusal.specs.Refusal.{limitsRefusal, windowRefusal, stringRefusal, tableSize, tableRefusal, places, stringRefusalIn}
 use Rattle.decoder_refusal.specs.Refusal.{tableRefusalIn}
 use Rattle.decoder.specs.Written.{Written}
@@ -60,8 +60,9 @@ use Rattle.decoder.specs.Window.{AnsweredRight}
 use Rattle.decoder.specs.declared.WindowResult.the-variants.{Answered}
 use Rattle.decoder_refusal.proofs.Accepting.{window-accepted}
 use Rattle.decoder.proofs.Writing.{written-bytes, written-unique}
-use Rattle.decoder.proofs.Decoding.{startsOf, file-starts, file-right}
-use Rattle.starts.proofs.Computed.{entriesWord, imageWord, inStepsWord, startsWord}
+use Rattle.decoder.proofs.Decoding.{startsOf, file-starts, decoded, file-right}
+use Rattle.mealy.proofs.ImageWords.{entriesWord, imageWord, farWord}
+use Rattle.starts.proofs.Computed.{inStepsWord, startsWord}
 use Rattle.placing.specs.Placed.{withFront}
 use Rattle.writer.proofs.Writing.{write-given}
 use Rattle.search.specs.Search.{searchRefusalIn, wanted, SaysOf, FoundVerdict, SearchPromise}
@@ -85,29 +86,29 @@ use Rattle.theorems.proofs.Tests.{different-test}
 
 abbrev sameAnswer : Answer → Answer → Bool
 sameAnswer (Letter x) (Letter y) = eqb x y
-sameAnswer None None = true
+sameAnswer (None k) (None j) = eqb k j
 sameAnswer Several Several = true
-sameAnswer (Letter x) None = false
+sameAnswer (Letter x) (None j) = false
 sameAnswer (Letter x) Several = false
-sameAnswer None (Letter y) = false
-sameAnswer None Several = false
+sameAnswer (None k) (Letter y) = false
+sameAnswer (None k) Several = false
 sameAnswer Several (Letter y) = false
-sameAnswer Several None = false
+sameAnswer Several (None j) = false
 
 same-answer : (v v′ : Answer) → sameAnswer v v′ ≡ true → v ≡ v′
 same-answer (Letter x) (Letter y) e = ap Letter (eqb-true x y e)
-same-answer None None e = refl
+same-answer (None k) (None j) e = ap None (eqb-true k j e)
 same-answer Several Several e = refl
-same-answer (Letter x) None e = absurd (true-false e refl)
+same-answer (Letter x) (None j) e = absurd (true-false e refl)
 same-answer (Letter x) Several e = absurd (true-false e refl)
-same-answer None (Letter y) e = absurd (true-false e refl)
-same-answer None Several e = absurd (true-false e refl)
+same-answer (None k) (Letter y) e = absurd (true-false e refl)
+same-answer (None k) Several e = absurd (true-false e refl)
 same-answer Several (Letter y) e = absurd (true-false e refl)
-same-answer Several None e = absurd (true-false e refl)
+same-answer Several (None j) e = absurd (true-false e refl)
 
 -- the byte for the letters of a window
 abbrev partByte : List ℕ → ℕ → ℕ → List ℕ → ℕ
-partByte f p b part = byteOf (meaning (decoded (coderOf f) (startsOf f p) part b))
+partByte f p b part = byteOf (meaning (decoded f p part b))
 
 -- the byte of the window with index k
 abbrev entryByte : List ℕ → ℕ → ℕ → ℕ → ℕ → ℕ
@@ -122,7 +123,7 @@ test f (claimed.not-valid s t bytes) =
     not (validTest (machineOf f) (startsOf f 0) (claimed.pair s t bytes) apart) && eqb (checkRefusal f (claimed.pair s t bytes) true) 0
 test f claimed.different-outputs = differentTest (machineOf f)
 test f (claimed.answer b a p w v) =
-    eqb (windowRefusal f (window b a p) w true) 0 && sameAnswer (decoded (coderOf f) (startsOf f p) w b) v
+    eqb (windowRefusal f (window b a p) w true) 0 && sameAnswer (decoded f p w b) v
 test f (claimed.string b a p received bytes) =
     let w = window b a p in
     let same : ℕ → Bool = λ k. eqb (getD bytes k 0) (partByte f p b (take (size w) (drop k received))) in
@@ -203,7 +204,7 @@ module _ (f : List ℕ) (z : fileRefusal f ≡ 0) where
 
   answer-holds :
       (b a p : ℕ) (received : List ℕ) (v : Answer) → windowRefusal f (window b a p) received true ≡ 0 →
-      decoded (coderOf f) (startsOf f p) received b ≡ v → Holds f (claimed.answer b a p received v)
+      decoded f p received b ≡ v → Holds f (claimed.answer b a p received v)
   answer-holds b a p received v e q r g =
       let h : AnsweredRight f (window b a p) received r = rw e at g in
       let inside = window-accepted f (window b a p) received true e .long in
@@ -220,7 +221,7 @@ module _ (f : List ℕ) (z : fileRefusal f ≡ 0) where
       (written-unique (λ k x y. right-byte-unique (settingAfter f p) (part k) b) written
       (written-bytes bytes long room (λ k m.
       rw (each k (omega arith))
-      (right-byte (settingAfter f p) (part k) b (decoded (coderOf f) (startsOf f p) (part k) b)
+      (right-byte (settingAfter f p) (part k) b (decoded f p (part k) b)
       (file-right f z p (part k) b (inside k m))))))
 
   string-holds :
@@ -299,7 +300,7 @@ module _ (f : List ℕ) (z : fileRefusal f ≡ 0) where
       (λ valid. true-false (test-valid (machineOf f) reachable-starts p valid) (not-true v (u .0)))
   claim-holds claimed.different-outputs e = different e
   claim-holds (claimed.answer b a p w v) e =
-      let d = decoded (coderOf f) (startsOf f p) w b in
+      let d = decoded f p w b in
       let t = both-true (eqb (windowRefusal f (window b a p) w true) 0) (sameAnswer d v) e in
       answer-holds b a p w v (eqb-true _ _ (t .0)) (same-answer d v (t .1))
   claim-holds (claimed.string b a p received bytes) e =
@@ -326,7 +327,7 @@ module _ (f : List ℕ) (z : fileRefusal f ≡ 0) where
 -- ---- the table
 
 passed : testCases test starred ≡ true
-unfolding test entriesWord imageWord inStepsWord startsWord allStarts bigEndian checkRefusal windowRefusal stringRefusal tableRefusal
+unfolding test entriesWord imageWord farWord inStepsWord startsWord allStarts bigEndian checkRefusal windowRefusal stringRefusal tableRefusal
     runRefusal limitsRefusal sidesRefusal settleRefusal leastTest laterOrFails worksTest agree allWords noEarlier firstTest validTest
     closesTest differentTest allBelow someBelow named fileRefusal entriesRefusal inRange within entryInRange machineOf entryOf coderOf
     table tableAt fittingWord pass added add contribution gather unionOf answerOf leadingZeros hasKey isEntry over windowAt

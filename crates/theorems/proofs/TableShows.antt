@@ -13,7 +13,8 @@ use Rattle.mealy.specs.Answer.{Answer, letter, none, several, Two, Answers, byt
 use Rattle.mealy.specs.Index.{indexOf, windowAt}
 use Rattle.mealy.proofs.Letters.{letter-at}
 use Rattle.mealy.proofs.Indices.{length-window, index-below, index-window}
-use Rattle.mealy.proofs.Answers.{length-outs, answer-unique}
+use Rattle.mealy.proofs.Answers.{answer-unique}
+use Rattle.mealy.proofs.RunParts.{length-outs}
 use Rattle.coder.specs.Refusal.{answer}
 use Rattle.coder.specs.File.{outputsOf, machineOf}
 use Rattle.coder.proofs.Accepted.{Accepted, accepted}
@@ -39,7 +40,7 @@ several-byte :
 several-byte S w b l (letter x) h e =
     let m = letter-at (S .M .inputs) (h .fits .xs) (h .fits .letters) b (h .fits .inside) in
     absurd (omega (arith, h .fits .letter))
-several-byte S w b l none h e = absurd (omega arith)
+several-byte S w b l (none k) h e = absurd (omega arith)
 several-byte S w b l several h e = h
 
 -- two runs with the outputs of a window that works have one letter at its present place

@@ -3,6 +3,7 @@ pub mod RoundTrip
 pub mod Files
 pub mod TableLimit
 pub mod TableShows
+pub mod HowFar
 pub mod SearchChecked
 pub mod Exists
 pub mod SameAnswers

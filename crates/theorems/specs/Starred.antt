@@ -1,7 +1,7 @@
 -- The starred cases of document 01 ("Example coders"): one table of coder files and what is claimed of each; the windows in both orders,
 -- with those of the coders G and H that document 02, 1/13, 5/13 and 6/13, name, and the first looped pairs, with the one of coder C that
--- 2/13 names. Coder F, which is not starred, stands here because 7/13 says that every example is
--- accepted. A claim on a call says that every outcome that the call promises on this file is the one named.
+-- 2/13 names; how far windows of coder G were possible, with the one that 9/13 names. Coder F, which is not starred, stands here because
+-- 7/13 says that every example is accepted. A claim on a call says that every outcome that the call promises on this file is the one named.
 use Prim.Native.Nat.{ℕ, _≤_, _<_}
 use mathlib.Core.Path.{_≡_}
 use mathlib.Core.Logic.{_≢_}
@@ -127,7 +127,13 @@ starred =
     -- G
     record {
       file = 1 ∷ 0 ∷ 19 ∷ 4 ∷ 2 ∷ 6 ∷ 1 ∷ 4 ∷ 1 ∷ 5 ∷ 2 ∷ 0 ∷ 3 ∷ 0 ∷ 2 ∷ 0 ∷ 2 ∷ 1 ∷ 3 ∷ 2 ∷ 3 ∷ 3 ∷ [];
-      claims = window defaultOrder 2 0 0 ∷ window FewestLetters 0 1 0 ∷ answer 0 1 0 (0 ∷ 0 ∷ []) (Letter 0) ∷ answer 0 1 0 (0 ∷ 2 ∷ []) (Letter 1) ∷ answer 0 1 0 (1 ∷ 2 ∷ []) None ∷ answer 0 0 0 (0 ∷ []) Several ∷ window defaultOrder 1 0 1 ∷ window FewestLetters 1 0 1 ∷ window defaultOrder 0 0 2 ∷ window FewestLetters 0 0 2 ∷ window defaultOrder 0 0 64 ∷ answer 0 0 2 (0 ∷ []) (Letter 0) ∷ table 0 0 2 (0 ∷ 1 ∷ 0 ∷ 1 ∷ 254 ∷ 254 ∷ []) ∷ [];
+      claims = window defaultOrder 2 0 0 ∷ window FewestLetters 0 1 0 ∷ answer 0 1 0 (0 ∷ 0 ∷ []) (Letter 0) ∷
+          answer 0 1 0 (0 ∷ 2 ∷ []) (Letter 1) ∷ answer 0 1 0 (1 ∷ 2 ∷ []) (None 1) ∷ answer 0 0 0 (0 ∷ []) Several ∷
+          window defaultOrder 1 0 1 ∷ window FewestLetters 1 0 1 ∷ window defaultOrder 0 0 2 ∷ window FewestLetters 0 0 2 ∷
+          window defaultOrder 0 0 64 ∷ answer 0 0 2 (0 ∷ []) (Letter 0) ∷ table 0 0 2 (0 ∷ 1 ∷ 0 ∷ 1 ∷ 254 ∷ 254 ∷ []) ∷
+          answer 0 0 2 (4 ∷ []) (None 0) ∷ answer 0 1 0 (4 ∷ 4 ∷ []) (None 1) ∷ answer 0 1 2 (4 ∷ 4 ∷ []) (None 0) ∷
+          answer 2 1 0 (5 ∷ 1 ∷ 0 ∷ 0 ∷ []) (None 1) ∷ answer 2 1 0 (0 ∷ 0 ∷ 2 ∷ 0 ∷ []) (None 2) ∷
+          answer 1 2 0 (4 ∷ 0 ∷ 1 ∷ 2 ∷ []) (None 3) ∷ string 0 1 0 (4 ∷ 4 ∷ 0 ∷ 2 ∷ []) (254 ∷ 0 ∷ 1 ∷ []) ∷ [];
     } ∷
     -- H, with a spare state
     record {

@@ -33,7 +33,8 @@ use Rattle.values.proofs.Orders.{is-order}
 use Rattle.fitting.specs.Answer.{answerOf}
 use Rattle.filling.specs.Sets.{contribution, gather, add, added}
 use Rattle.filling.specs.Window.{pass, unionOf, fittingWord}
-use Rattle.starts.proofs.Computed.{entriesWord, imageWord, inStepsWord, startsWord}
+use Rattle.mealy.proofs.ImageWords.{entriesWord, imageWord}
+use Rattle.starts.proofs.Computed.{inStepsWord, startsWord}
 use Rattle.window_limits.specs.Refusal.{sidesRefusal}
 use Rattle.decoder.proofs.Decoding.{startsOf, file-starts, file-fits}
 use Rattle.kinds.specs.Kinds as theory

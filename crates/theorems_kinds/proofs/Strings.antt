@@ -10,8 +10,7 @@ use borrow.Author.Tests.{eq-eqb}
 use Rattle.mealy.specs.Machine.{outs, Letters}
 use Rattle.mealy.specs.Product.{pairs}
 use Rattle.mealy.specs.Word.{Has}
-use Rattle.mealy.proofs.Answers.{length-outs}
-use Rattle.mealy.proofs.ComesBack.{letters-take, letters-drop}
+use Rattle.mealy.proofs.RunParts.{length-outs, letters-take, letters-drop}
 use Rattle.mealy.proofs.StartStates.{start-zero, after-closed}
 use Rattle.coder.specs.Limits.{maxSide}
 use Rattle.coder.specs.File.{fileRefusal, statesOf, inputsOf, outputsOf, machineOf, settingAfter}

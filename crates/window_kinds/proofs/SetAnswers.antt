@@ -10,7 +10,8 @@ use borrow.Author.Tests.{eqb-true, eq-eqb, ne-eqb}
 use Rattle.mealy.specs.Word.{Has, Holds}
 use Rattle.mealy.specs.Setting.{Setting}
 use Rattle.mealy.specs.Answer.{Fits, Two}
-use Rattle.mealy.proofs.Words.{has-empty}
+use Rattle.mealy.proofs.Words.{has-empty, holds-empty}
+use Rattle.mealy.proofs.Answers.{far-no-fit}
 use Rattle.mealy.proofs.Members.{holds-member, least-member}
 use Rattle.coder.proofs.Refusals.{all-at, all-fails, true-false}
 use Rattle.fitting.specs.Answer.{Right, answerOf}
@@ -64,8 +65,13 @@ module _ {S : Setting} {w : List ℕ} {b : ℕ} (kind : ℕ → ℕ) {u : ℕ} (
 
   by-answer : (v : Answer) → Right S w b v → RightKinds S kind w b (ofAnswer kind u v)
   by-answer (fitting.Letter x) r = r
-  by-answer fitting.None r = r
+  by-answer (fitting.None k) r = far-no-fit S w b k r
   by-answer fitting.Several r = several-right r
 
+  -- with no letter none, whatever the count
   pub holds-kinds-right : RightKinds S kind w b (kindsAnswerOf kind u)
-  holds-kinds-right = by-answer (answerOf u) (holds-right a)
+  unfolding answerOf
+  holds-kinds-right = elim (ℕ-discrete u 0) [
+    | yes e ↦ rw (eq-eqb u 0 e) (holds-empty a e)
+    | no n ↦ by-answer (answerOf u 0) (holds-right a (λ e. absurd (n e)))
+  ]

@@ -38,11 +38,11 @@ shared kind u κ = allBelow 16 (ofKind kind u κ)
 unfoldable pub kindOrSeveral : (ℕ → ℕ) → ℕ → KindsAnswer
 kindOrSeveral kind u = cond (shared kind u (kind (trailingZeros 16 u))) (Kind (kind (trailingZeros 16 u))) Several
 
--- by the answer for letters
+-- by the answer for letters; its none has no count here (document 02, 9/13, third sentence)
 abbrev pub ofAnswer : (ℕ → ℕ) → ℕ → Answer → KindsAnswer
 ofAnswer kind u (fitting.Letter x) = Letter x
-ofAnswer kind u fitting.None = None
+ofAnswer kind u (fitting.None k) = None
 ofAnswer kind u fitting.Several = kindOrSeveral kind u
 
 abbrev pub kindsAnswerOf : (ℕ → ℕ) → ℕ → KindsAnswer
-kindsAnswerOf kind u = ofAnswer kind u (answerOf u)
+kindsAnswerOf kind u = ofAnswer kind u (answerOf u 0)

@@ -4,6 +4,7 @@ ghost use mathlib.Core.Bool.{true};
 ghost use Rattle.decoder_refusal.specs.Refusal.{windowRefusal};
 ghost use Rattle.mealy.specs.Answer.{Fits};
 ghost use Rattle.mealy.specs.Word.{Holds};
+ghost use Rattle.fitting.specs.Tables.{DecodedIn};
 ghost use Rattle.decoder.specs.Window.{windowSetting, RightOf};
 ghost use Rattle.decoder.specs.Places.{StringAsked, StringGiven};
 ghost use Rattle.decoder.specs.Table.{TableAsked, TableGiven};
@@ -14,21 +15,22 @@ use decoder_refusal::inner::sizes;
 use filling::inner::table::fill;
 use fitting::inner::answer::answer_of;
 use fitting::inner::tables::of_coder;
-use fitting::inner::window::fitting;
+use fitting::inner::window::Decoded;
+use fitting::inner::window::decode;
 use starts::inner::start_states;
 use table_size::inner::size;
 use values::Window;
 
-// The letters that fit a window of received letters.
-pub fn letters(file: &[u8], w: Window, received: &[u8]) -> u16
+// What a window of received letters decodes to.
+fn decode_one(file: &[u8], w: Window, received: &[u8]) -> Decoded
     requires { ⌜ windowRefusal (now file) w (now received) true ≡ 0 ⌝ }
-    ensures { λ r. ⌜ Holds (Fits (windowSetting (now (file .entry)) w) (now (received .entry)) (w .before)) r ⌝ }
+    ensures { λ r. ⌜ DecodedIn (windowSetting (now (file .entry)) w) (now (received .entry)) (w .before) (r .letters) (r .far) ⌝ }
 {
     let c = Coder::from_checked(file);
     let starts = start_states(c, w.settle);
     let sets = of_coder(c);
     let place = w.before;
-    fitting(
+    decode(
         &c.next,
         &sets.successors,
         &sets.predecessors,
@@ -39,12 +41,22 @@ pub fn letters(file: &[u8], w: Window, received: &[u8]) -> u16
     )
 }
 
+// The letters that fit a window of received letters.
+pub fn letters(file: &[u8], w: Window, received: &[u8]) -> u16
+    requires { ⌜ windowRefusal (now file) w (now received) true ≡ 0 ⌝ }
+    ensures { λ r. ⌜ Holds (Fits (windowSetting (now (file .entry)) w) (now (received .entry)) (w .before)) r ⌝ }
+{
+    let found = decode_one(file, w, received);
+    found.letters
+}
+
 // Decodes one window of received letters.
 pub fn window(file: &[u8], w: Window, received: &[u8]) -> fitting::Answer
     requires { ⌜ windowRefusal (now file) w (now received) true ≡ 0 ⌝ }
     ensures { λ r. ⌜ RightOf (now (file .entry)) w (now (received .entry)) r ⌝ }
 {
-    answer_of(letters(file, w, received))
+    let found = decode_one(file, w, received);
+    answer_of(found.letters, found.far)
 }
 
 // Decodes each place of a string that has a full window; returns how many bytes were written.

@@ -1,9 +1,11 @@
 // A string, place by place.
 ghost use Rattle.decoder.specs.Places.{PlacesAsked, PlacesGiven};
 use fitting::inner::answer::answer_byte;
-use fitting::inner::window::decode;
+use fitting::inner::answer::answer_of;
+use fitting::inner::window::fitting;
 
-// Decodes the parts of n letters that start at the first m places of the received letters, each by itself.
+// Decodes the parts of n letters that start at the first m places of the received letters, each by itself. A byte has no count: 0
+// stands for it.
 pub fn decode_places<'a>(
     next: &'a [u8; 256],
     successors: &'a [u16; 1024],
@@ -22,7 +24,7 @@ pub fn decode_places<'a>(
     let mut k = 0;
     while k < m {
         let end = k + n;
-        let part = decode(
+        let fit = fitting(
             next,
             successors,
             predecessors,
@@ -31,7 +33,7 @@ pub fn decode_places<'a>(
             &received[k..end],
             b,
         );
-        output[k] = answer_byte(part);
+        output[k] = answer_byte(answer_of(fit, 0));
         k += 1;
     }
 }

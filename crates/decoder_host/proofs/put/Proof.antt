@@ -1,5 +1,5 @@
--- `put` meets its contract: a refusal changes nothing, the byte of an answer goes into field 0.
-use mathlib.Core.Path.{refl, _∙_}
+-- `put` meets its contract: a refusal changes nothing, an answer goes into its fields.
+use mathlib.Core.Path.{refl}
 use borrow.Author.Needs.{needs}
 use Rattle.layout.proofs.Hosting.{refused-out}
 use Rattle.decoder_host.proofs.put.Statement.{statement}
@@ -11,15 +11,9 @@ enum-known-own c = search needs
 enum-known-own-2 : tie.Need-enum-known-own-2
 enum-known-own-2 c = search needs
 
-answer-byte-requires : tie.Need-answer-byte-requires
-answer-byte-requires c κs = search needs
-
-number-requires : tie.Need-number-requires
-number-requires c κs = search needs
-
-put-one-requires : tie.Need-put-one-requires
-put-one-requires c κs =
-    let o = c .before .before .before .before in
+put-answer-requires : tie.Need-put-answer-requires
+put-answer-requires c κs =
+    let o = c .before .before in
     (rw (o .own2 .given .1) at (o .before .before .before .pre)) refl
 
 returns : tie.Need-returns
@@ -31,20 +25,7 @@ same-length c = search needs
 returns-2 : tie.Need-returns-2
 returns-2 c =
     let p = c .before .before in
-    let n = p .before in
-    let a = n .before in
-    let byte = n .number .ensures .0 ∙ a .answer-byte .ensures in
-    rw (a .before .before .before .own2 .given .1) (record { number = refl; fields = rw byte at (p .put-one .ensures) })
+    rw (p .before .before .before .own2 .given .1) (record { number = refl; fields = p .put-answer .ensures })
 
 pub put-spec : {M : Type 1} → statement M
-put-spec =
-    tie.close
-    (tie.spec
-    enum-known-own
-    enum-known-own-2
-    answer-byte-requires
-    number-requires
-    put-one-requires
-    returns
-    same-length
-    returns-2)
+put-spec = tie.close (tie.spec enum-known-own enum-known-own-2 put-answer-requires returns same-length returns-2)

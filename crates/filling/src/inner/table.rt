@@ -10,7 +10,8 @@ use crate::inner::sets::start_sets;
 use fitting::inner::answer::answer_byte;
 use fitting::inner::answer::answer_of;
 
-// Fills the part of the table whose windows have one letter more. `here` says whether that is the present one.
+// Fills the part of the table whose windows have one letter more. `here` says whether that is the present one. A byte has no count: 0
+// stands for it.
 fn fill_last<'a>(
     start: &'a [u16; 65],
     entries: &'a [u8; 256],
@@ -24,7 +25,7 @@ fn fill_last<'a>(
 {
     let mut o = 0;
     while o < outputs {
-        table[o] = answer_byte(answer_of(letters_after(start, entries, v, o, here)));
+        table[o] = answer_byte(answer_of(letters_after(start, entries, v, o, here), 0));
         o += 1;
     }
 }

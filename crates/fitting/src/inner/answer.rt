@@ -9,12 +9,12 @@ pub const NONE: u8 = 254;
 
 pub const SEVERAL: u8 = 255;
 
-// With more letters than its greatest one, several.
-pub fn answer_of(u: u16) -> Answer
-    ensures { λ r. ⌜ r ≡ answerOf u ⌝ }
+// With no letter, none with the count `far`; with more letters than its greatest one, several.
+pub fn answer_of(u: u16, far: usize) -> Answer
+    ensures { λ r. ⌜ r ≡ answerOf u far ⌝ }
 {
     if u == 0 {
-        return Answer::None;
+        return Answer::None(far);
     }
     let greatest = 15 - u16::leading_zeros(u);
     if u != 1u16 << greatest {
@@ -24,13 +24,15 @@ pub fn answer_of(u: u16) -> Answer
     Answer::Letter(letter)
 }
 
-// The answer's byte.
+// The answer's byte, as strings and tables write it: 254 for none, whatever its count.
 pub fn answer_byte(a: Answer) -> u8
     ensures { λ r. ⌜ r ≡ byteOf (meaning a) ⌝ }
 {
-    match a {
-        Answer::Letter(x) => x,
-        Answer::None => NONE,
-        Answer::Several => SEVERAL,
-    }
+    let Answer::Letter(x) = a else {
+        let Answer::None(_) = a else {
+            return SEVERAL;
+        };
+        return NONE;
+    };
+    x
 }

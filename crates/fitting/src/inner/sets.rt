@@ -4,7 +4,7 @@ ghost use Prim.Native.Nat.{ℕ, _+_, _*_, _<_};
 ghost use lib.ListN.{getD};
 ghost use Rattle.mealy.specs.Machine.{Letters};
 ghost use Rattle.mealy.specs.Word.{Has, Holds};
-ghost use Rattle.mealy.specs.Image.{Image, Following, Leading};
+ghost use Rattle.mealy.specs.Image.{Image, Following, FarIn, Leading};
 ghost use Rattle.coder.specs.Limits.{maxStates, maxInputs, maxOutputs};
 ghost use Rattle.fitting.specs.Tables.{Words, Leads, Between};
 use coder::inner::bytes::byte;
@@ -42,6 +42,25 @@ pub fn follow(successors: &[u16; 1024], w: &[u8], set: u16) -> u16
         k += 1;
     }
     to
+}
+
+// How many letters of w, from the first on, lead to some state from those of a set, which is not empty: all, or those before the one that
+// leads to none.
+pub fn how_far(successors: &[u16; 1024], w: &[u8], set: u16) -> usize
+    requires { ⌜ Words (now successors) × Letters maxOutputs (now w) × (set ≡ 0 → ⊥) ⌝ }
+    ensures { λ r. ⌜ FarIn (Leads (now (successors .entry))) (Has set) (now (w .entry)) r ⌝ }
+{
+    let mut to = set;
+    let mut k = 0;
+    while k < w.len() {
+        let next = image(successors, byte(w, k), to);
+        if next == 0 {
+            return k;
+        }
+        to = next;
+        k += 1;
+    }
+    k
 }
 
 // The states from which all letters of w can be produced.

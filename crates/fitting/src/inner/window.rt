@@ -1,14 +1,13 @@
-// The letters that fit a window, and the answer.
+// The letters that fit a window, and how far it was possible where none does.
 ghost use Prim.Native.Nat.{_<_};
 ghost use lib.ListN.{length};
 ghost use Rattle.mealy.specs.Machine.{Letters};
 ghost use Rattle.mealy.specs.Word.{Has, Holds};
 ghost use Rattle.coder.specs.Limits.{maxOutputs};
 ghost use Rattle.fitting.specs.Tables.{TablesAsked, PresentAsked, PresentGiven, FittingIn, Tables, DecodeGiven};
-use crate::Answer;
-use crate::inner::answer::answer_of;
 use crate::inner::sets::between;
 use crate::inner::sets::follow;
+use crate::inner::sets::how_far;
 use crate::inner::sets::image;
 use crate::inner::sets::lead;
 use coder::inner::bytes::byte;
@@ -45,12 +44,22 @@ pub fn fitting<'a>(
     ensures { λ r. ⌜ Holds (FittingIn (now (next .entry)) (now (successors .entry)) (now (letters .entry)) (Has starts) (now (window .entry)) b) r ⌝ }
 {
     let set = follow(successors, &window[..b], starts);
+    if set == 0 {
+        return 0;
+    }
     let o = byte(window, b);
     let after = b + 1;
     present(next, predecessors, letters, o, set, &window[after..])
 }
 
-// The answer for the letters of a window with b letters before the present one.
+// What a window decodes to: the letters that fit; and, where there is none, how many letters of the window, from its first on, some run can
+// produce.
+pub struct Decoded {
+    pub letters: u16,
+    pub far: usize,
+}
+
+// Decodes a window with b letters before the present one. Only where no letter fits it is gone over once more, for the count.
 pub fn decode<'a>(
     next: &'a [u8; 256],
     successors: &'a [u16; 1024],
@@ -59,9 +68,19 @@ pub fn decode<'a>(
     starts: u16,
     window: &[u8],
     b: usize,
-) -> Answer
+) -> Decoded
     requires { ⌜ Tables (now next) (now successors) (now predecessors) (now letters) starts × Letters maxOutputs (now window) × (b < length (now window)) ⌝ }
-    ensures { λ r. ⌜ DecodeGiven (now (next .entry)) (now (successors .entry)) (now (predecessors .entry)) (now (letters .entry)) starts (now (window .entry)) b r ⌝ }
+    ensures { λ r. ⌜ DecodeGiven (now (next .entry)) (now (successors .entry)) (now (predecessors .entry)) (now (letters .entry)) starts (now (window .entry)) b (r .letters) (r .far) ⌝ }
 {
-    answer_of(fitting(next, successors, predecessors, letters, starts, window, b))
+    let fit = fitting(next, successors, predecessors, letters, starts, window, b);
+    if fit == 0 {
+        return Decoded {
+            letters: 0,
+            far: how_far(successors, window, starts),
+        };
+    }
+    Decoded {
+        letters: fit,
+        far: 0,
+    }
 }

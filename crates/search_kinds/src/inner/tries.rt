@@ -76,10 +76,10 @@ fn carries<'a>(
     requires { ⌜ KindAsked c (now last) (now previous) (now backs) (now forwards) (now kinds) k ⌝ }
     ensures { λ r. ⌜ SomeTold c (now (backs .entry)) (now (forwards .entry)) (DifferentWithin (kindOf (now (kinds .entry))) k) r ⌝ }
 {
-    let letters = answer_of(letters_of(kinds, k));
+    let letters = answer_of(letters_of(kinds, k), 0);
     match letters {
         Answer::Several => some_window(c, last, previous, backs, forwards, kinds, k),
-        Answer::None => true,
+        Answer::None(_) => true,
         Answer::Letter(_) => true,
     }
 }

@@ -50,15 +50,16 @@ fn kind_or_several(kinds: &[u8], set: u16) -> KindsAnswer
     KindsAnswer::Several
 }
 
-// The letter where one alone is in the set, the kind where all share one, several where they do not, none where there is no letter.
+// The letter where one alone is in the set, the kind where all share one, several where they do not, none where there is no letter,
+// with no count.
 pub fn kinds_answer(kinds: &[u8], set: u16) -> KindsAnswer
     requires { ⌜ KindsLow (now kinds) ⌝ }
     ensures { λ r. ⌜ r ≡ kindsAnswerOf (kindOf (now (kinds .entry))) set ⌝ }
 {
-    let a = answer_of(set);
+    let a = answer_of(set, 0);
     match a {
         Answer::Letter(x) => KindsAnswer::Letter(x),
-        Answer::None => KindsAnswer::None,
+        Answer::None(_) => KindsAnswer::None,
         Answer::Several => kind_or_several(kinds, set),
     }
 }

@@ -21,13 +21,13 @@ shl-if2 : tie.Need-shl-if2
 shl-if2 c = search needs
 
 returns-2 : tie.Need-returns-2
-returns-2 c = several-letters _ (c .before .if1 .left) (c .if2 .taken)
+returns-2 c = several-letters _ _ (c .before .if1 .left) (c .if2 .taken)
 
 cast-letter : tie.Need-cast-letter
 cast-letter c = search needs
 
 returns-3 : tie.Need-returns-3
-returns-3 c = one-letter _ (c .before .if1 .left) (c .if2 .left)
+returns-3 c = one-letter _ _ (c .before .if1 .left) (c .if2 .left)
 
 pub answer-of-spec : {M : Type 1} → statement M
 answer-of-spec = tie.close (tie.spec returns sub-greatest cast-if2 shl-if2 returns-2 cast-letter returns-3)

@@ -1,12 +1,12 @@
--- `fitting` meets its contract.
+-- `fitting` meets its contract: no state is left before the present letter, or the letters that fit from those that are.
 use mathlib.Core.Path.{sym}
 use denote.Ref.{now}
 use Prim.Native.Nat.{_+_, _-_}
 use lib.ListN.{length, drop}
 use lib.Seq.{length-take-le}
-use Rattle.mealy.proofs.ComesBack.{letters-take, letters-drop}
+use Rattle.mealy.proofs.RunParts.{letters-take, letters-drop}
 use Rattle.mealy.proofs.Letters.{letter-at}
-use Rattle.fitting.proofs.Present.{rest, window-fits}
+use Rattle.fitting.proofs.Present.{rest, window-fits, none-fits}
 use native.Mathlib.Omega.{arith}
 use borrow.Author.Needs.{needs}
 use Rattle.fitting.proofs.inner.window.fitting.Statement.{statement}
@@ -17,6 +17,13 @@ slice-aggregate-follow c = let p = c .before .before in sym (length-take-le (p .
 
 follow-requires : tie.Need-follow-requires
 follow-requires c κs = let p = c .before .before in (p .pre .0 .successors-words, letters-take 64 (p .args .b) (now (p .args .window)) (p .pre .1))
+
+returns : tie.Need-returns
+returns c =
+    let f = c .before in
+    let a = f .before .before .before .args in
+    none-fits (now (a .next)) (now (a .successors)) (now (a .letters)) (now (a .window)) (a .b) (a .starts)
+    (rw (c .if1 .taken) at (f .follow .ensures))
 
 byte-requires : tie.Need-byte-requires
 byte-requires c κs = search needs
@@ -35,7 +42,7 @@ part-present-end c = search needs
 
 present-requires : tie.Need-present-requires
 present-requires c κs =
-    let p = c .before .before .before .before .before in
+    let p = c .before .before .before .before .before .before in
     let w = now (p .args .window) in
     let k = p .args .b + 1 in
     let e = c .before .byte .ensures .0 in
@@ -47,14 +54,15 @@ present-requires c κs =
       after-letters = letters-take 64 (length w - k) (drop k w) (letters-drop 64 k w (p .pre .1));
     }
 
-returns : tie.Need-returns
-returns c =
-    let p = c .before .before .before .before .before .before in
+returns-2 : tie.Need-returns-2
+returns-2 c =
+    let seen = c .before .before in
+    let f = seen .before .before in
+    let p = f .before .before .before in
     let a = p .args in
     let w = now (a .window) in
-    let seen = c .before .before in
     window-fits (now (a .next)) (now (a .successors)) (now (a .letters)) w (a .b) (a .starts) (p .pre .2) (seen .byte .ensures .0)
-    (seen .before .follow .ensures) (rw (rest w (a .b)) at (c .present .ensures (now (a .successors)) (p .pre .0)))
+    (f .follow .ensures) (rw (rest w (a .b)) at (c .present .ensures (now (a .successors)) (p .pre .0)))
 
 pub fitting-spec : {M : Type 1} → statement M
 fitting-spec =
@@ -62,10 +70,11 @@ fitting-spec =
     (tie.spec
     slice-aggregate-follow
     follow-requires
+    returns
     byte-requires
     add-after
     sub-present
     part-present-start
     part-present-end
     present-requires
-    returns)
+    returns-2)

@@ -34,7 +34,7 @@ returns-2 c =
     let l = a .before in
     let s = l .before .before in
     single-told _ (s .pre .all .product .sound) (kindOf (now (s .args .kinds))) (s .args .k)
-    (no-letters (l .letters-of .ensures) (sym (a .answer-of .ensures) ∙ c .enum-told2 .given .1))
+    (no-letters (l .letters-of .ensures) _ (sym (a .answer-of .ensures) ∙ c .enum-told2 .given .1))
 
 returns-3 : tie.Need-returns-3
 returns-3 c =

@@ -1,15 +1,14 @@
--- `checked::letters` meets its contract: the letters that fit by the tables of the file fit for the file.
+-- `checked::decode_one` meets its contract: what a window decodes to by the tables of the file it decodes to for the file.
 use denote.Ref.{now}
 use native.Mathlib.Omega.{arith}
 use Rattle.mealy.specs.Machine.{Letters}
 use Rattle.mealy.proofs.Letters.{letters-higher}
 use Rattle.coder.specs.File.{outputsOf}
 use Rattle.coder.specs.Limits.{maxOutputs}
-use Rattle.fitting.proofs.Meaning.{tables-asked, fits-in}
-use Rattle.decoder.proofs.Decoding.{CoderOf, sound-of, outputs-of, tables-of, fits-of}
+use Rattle.decoder.proofs.Decoding.{CoderOf, sound-of, outputs-of, tables-of, decoded-of}
 use Rattle.decoder_refusal.proofs.Accepting.{window-accepted}
-use Rattle.decoder.proofs.inner.checked.letters.Statement.{statement}
-use Rattle.decoder.proofs.inner.checked.letters.Tie as tie
+use Rattle.decoder.proofs.inner.checked.decode_one.Statement.{statement}
+use Rattle.decoder.proofs.inner.checked.decode_one.Tie as tie
 
 from-checked-requires : tie.Need-from-checked-requires
 from-checked-requires c κs = window-accepted _ _ _ _ (c .before .before .pre) .limits .file
@@ -33,11 +32,11 @@ start-states-requires c κs = sound-of (coder-of c)
 of-coder-requires : tie.Need-of-coder-requires
 of-coder-requires c κs = sound-of (coder-of (c .before))
 
-fitting-requires : tie.Need-fitting-requires
-fitting-requires c κs =
+decode-requires : tie.Need-decode-requires
+decode-requires c κs =
     let tabled = c .before .before .before .before .before .before in
     let k = tabled .before .before in (
-      tables-asked (tables-of (coder-of k) _ (tabled .before .start-states .ensures) (tabled .of-coder .ensures)),
+      record { coder = _; is = tables-of (coder-of k) _ (tabled .before .start-states .ensures) (tabled .of-coder .ensures) },
       low k,
       omega (arith, window-accepted _ _ _ _ (start k .pre) .long),
     )
@@ -48,15 +47,15 @@ returns c =
     let k = tabled .before .before in
     let a = start k .args in
     let s = tabled .before .start-states .ensures in
-    fits-of (coder-of k) (a .w .settle) s (now (a .received)) (a .w .before)
-    (fits-in (tables-of (coder-of k) _ s (tabled .of-coder .ensures)) (now (a .received)) (a .w .before) (low k) (c .fitting .ensures))
+    decoded-of (coder-of k) (a .w .settle) s (now (a .received)) (a .w .before)
+    (c .decode .ensures _ (tables-of (coder-of k) _ s (tabled .of-coder .ensures)))
 
-pub letters-spec : {M : Type 1} → statement M
-letters-spec =
+pub decode-one-spec : {M : Type 1} → statement M
+decode-one-spec =
     tie.close
     (tie.spec
     from-checked-requires
     start-states-requires
     of-coder-requires
-    fitting-requires
+    decode-requires
     returns)
