@@ -66,7 +66,8 @@ module _ {c : Coder} {f : List ℕ} (h : CoderOf c f) where
   module _ (p : ℕ) {starts : ℕ} (s : Holds (settingOfCoder c p .Start) starts) where
     same-file : Same (fromWord c starts) (settingAfter f p)
     same-file =
-        subst (λ (M : Machine). Same (fromWord c starts) (afterLetters M p)) (coder-machine (h .is) (accepted f (h .file))) (same-word c p s)
+        subst (λ (M : Machine). Same (fromWord c starts) (afterLetters M p)) (coder-machine (h .is) (accepted f (h .file)))
+        (same-word c p s)
 
     fits-of : (w : List ℕ) (b : ℕ) {u : ℕ} → Holds (Fits (fromWord c starts) w b) u → Holds (Fits (settingAfter f p) w b) u
     fits-of w b = holds-map (fits-same same-file w b) (fits-same (same-sym same-file) w b)

@@ -11,8 +11,8 @@ use Rattle.decoder.specs.Table.{TableWith}
 use Rattle.decoder.specs.declared.WindowResult.{WindowResult}
 use Rattle.decoder.specs.declared.WindowResult.the-variants.{Refused, Answered}
 
--- The fields of an answer: the letter that alone fits; 254 for "none", with its count (document 02, 9/13, second sentence) in field 1; or 255
--- for "several" ("Decoding", third sentence).
+-- The fields of an answer: the letter that alone fits; 254 for "none", with its count (document 02, 9/13, second sentence) in field 1; or
+-- 255 for "several" ("Decoding", third sentence).
 abbrev pub answerFields : Answer → List ℕ
 answerFields (Letter x) = x ∷ []
 answerFields (None k) = 254 ∷ k ∷ []

@@ -11,7 +11,7 @@ use Rattle.mealy.specs.Machine.{Machine, Letters, Total}
 use Rattle.mealy.specs.Word.{Has, Holds}
 use Rattle.mealy.specs.HowFar.{NoRun, HowFar}
 use Rattle.mealy.specs.Answer.{Fits}
-use Rattle.mealy.specs.Image.{Transitions, FarIn, Entry, Successor}
+use Rattle.mealy.specs.Image.{Transitions, Reached, FarIn, Entry, Successor}
 use Rattle.mealy.proofs.Words.{holds-map, holds-empty}
 use Rattle.mealy.proofs.Members.{holds-member, holds-itself}
 use Rattle.mealy.proofs.Images.{All, following-within, fitting-within, fitting-fits, fits-fitting}
@@ -211,28 +211,25 @@ module _ {c : Coder} {next successors predecessors letters : List ℕ} {starts :
       (all (Successor N) (Leads successors) from-successor w l) b x (λ s h. h)
       (fits-fitting S sound-total (k .starts-are .low) w b x f))
 
+  -- where a part of the letters leads to some state by R it does by R′
+  led :
+      (R R′ : Transitions) (f : (o s t : ℕ) → o < 64 → R o s t → R′ o s t) (w : List ℕ) → Letters 64 w → (m : ℕ) →
+      Reached R (Has starts) (take m w) → Reached R′ (Has starts) (take m w)
+  led R R′ f w l m r =
+      record {
+        t = r .t;
+        is =
+            following-within R R′ (λ o. o < 64) f (take m w) (all R R′ f (take m w) (letters-take 64 m w l))
+            {P = Has starts} {P′ = Has starts} (λ s q. q) (r .t) (r .is);
+      }
+
   -- the letters that lead to some state: some run produces them
   far-in :
       (w : List ℕ) {n : ℕ} → Letters 64 w → NoRun (fromWord c starts) w → FarIn (Leads successors) (Has starts) w n →
       HowFar (fromWord c starts) w n
   far-in w l none h =
       far-runs (fromWord c starts) sound-total (k .starts-are .low) w none
-      (far-map
-      (λ m r. record {
-        t = r .t;
-        is =
-            following-within (Leads successors) (Successor N) (λ o. o < 64) to-successor (take m w)
-            (all (Leads successors) (Successor N) to-successor (take m w) (letters-take 64 m w l))
-            {P = Has starts} {P′ = Has starts} (λ s q. q) (r .t) (r .is);
-      })
-      (λ m r. record {
-        t = r .t;
-        is =
-            following-within (Successor N) (Leads successors) (λ o. o < 64) from-successor (take m w)
-            (all (Successor N) (Leads successors) from-successor (take m w) (letters-take 64 m w l))
-            {P = Has starts} {P′ = Has starts} (λ s q. q) (r .t) (r .is);
-      })
-      h)
+      (far-map (led (Leads successors) (Successor N) to-successor w l) (led (Successor N) (Leads successors) from-successor w l) h)
 
   pub decoded-in :
       (w : List ℕ) (b : ℕ) {u far : ℕ} → Letters 64 w → b < length w → Holds (FittingIn next successors letters (Has starts) w b) u →
@@ -250,5 +247,6 @@ pub some-far :
     (k : ℕ) × HowFar (fromWord c starts) w k
 some-far {c} {starts} sound s w none = (
   farWord (machineOfCoder c) starts w,
-  far-word (fromWord c starts) (λ t i p l. sound .next-state t i) (sound .states-high) (s .low) starts (holds-itself (s .bound)) (s .some) w none,
+  far-word (fromWord c starts) (λ t i p l. sound .next-state t i) (sound .states-high) (s .low) starts (holds-itself (s .bound)) (s .some) w
+      none,
 )

@@ -52,19 +52,19 @@ module _ {R : Transitions} {w : List ℕ} {set k to : ℕ} (a : Followed R w set
 -- ---- how far letters lead
 
 -- the first k letters of w lead from `set` to `to`, which is not empty: as far as the others lead from there, and k letters more
-pub record SoFar (R : Transitions) (w : List ℕ) (set k to : ℕ) : Type 0 where
+pub record StillLeads (R : Transitions) (w : List ℕ) (set k to : ℕ) : Type 0 where
   pub bound : to < 65536
   pub some : to ≡ 0 → ⊥
   pub leads : (n m : ℕ) → k + n ≡ m → FarIn R (Has to) (drop k w) n → FarIn R (Has set) w m
 
-pub so-far-none : {R : Transitions} {w : List ℕ} {set : ℕ} → set < 65536 → (set ≡ 0 → ⊥) → SoFar R w set 0 set
-so-far-none l some = record { bound = l; some = some; leads = λ n m e h. let q : n ≡ m = omega arith in rw q at h }
+pub still-none : {R : Transitions} {w : List ℕ} {set : ℕ} → set < 65536 → (set ≡ 0 → ⊥) → StillLeads R w set 0 set
+still-none l some = record { bound = l; some = some; leads = λ n m e h. let q : n ≡ m = omega arith in rw q at h }
 
-module _ {R : Transitions} {w : List ℕ} {set k to : ℕ} (a : SoFar R w set k to) where
+module _ {R : Transitions} {w : List ℕ} {set k to : ℕ} (a : StillLeads R w set k to) where
   module _ {o to′ : ℕ} (l : k < length w) (e : o ≡ getD w k 0) (h : Holds (Image (R o) (Has to)) to′) where
     -- the next letter leads to some state
-    pub so-far-more : (to′ ≡ 0 → ⊥) → SoFar R w set (k + 1) to′
-    so-far-more some =
+    pub still-more : (to′ ≡ 0 → ⊥) → StillLeads R w set (k + 1) to′
+    still-more some =
         record {
           bound = h .bound;
           some = some;
@@ -74,11 +74,11 @@ module _ {R : Transitions} {w : List ℕ} {set k to : ℕ} (a : SoFar R w set k 
         }
 
     -- or to none
-    pub so-far-stops : to′ ≡ 0 → FarIn R (Has set) w k
-    so-far-stops z =
+    pub still-stops : to′ ≡ 0 → FarIn R (Has set) w k
+    still-stops z =
         a .leads 0 k (omega arith)
         (rw (drop-cons w k 0 l, ← e) (far-none R (o ∷ drop (suc k) w) to (a .bound) (a .some) (λ m r. holds-empty h z (r .t) (r .is))))
 
   -- none is left
-  pub so-far-all : length w ≤ k → FarIn R (Has set) w k
-  so-far-all l = a .leads 0 k (omega arith) (rw (drop-none w k l) (far-none R [] to (a .bound) (a .some) (λ m r. absurd (omega arith))))
+  pub still-all : length w ≤ k → FarIn R (Has set) w k
+  still-all l = a .leads 0 k (omega arith) (rw (drop-none w k l) (far-none R [] to (a .bound) (a .some) (λ m r. absurd (omega arith))))

@@ -1,5 +1,5 @@
--- A host reads back what was written: field k of a result is the k-th number, where that is one that 8 bytes hold; and past the fields what was
--- there.
+-- A host reads back what was written: field k of a result is the k-th number, where that is one that 8 bytes hold; and past the fields what
+-- was there.
 use mathlib.Core.Path.{_≡_, refl, ap, _∙_}
 use mathlib.Core.List.{List, [], _∷_, _++_}
 use Prim.Native.Nat.{ℕ, zero, suc, _*_, _<_}

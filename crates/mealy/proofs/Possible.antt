@@ -1,5 +1,5 @@
--- How far a window was possible: there is one count, it is that of the longest part, and where there is one no run gives the window. By runs
--- and by sets of states the same.
+-- How far a window was possible: there is one count, it is that of the longest part, and where there is one no run gives the window. By
+-- runs and by sets of states the same.
 use mathlib.Core.Path.{_≡_, sym, ap, _∙_}
 use mathlib.Core.List.{List, _∷_}
 use Prim.Native.Nat.{ℕ, suc, _<_, _≤_}

@@ -1,5 +1,5 @@
--- What the contracts cite: machines, runs, reachable states, windows, how far one was possible, the decoder's answer, the index of a window,
--- the product machine, looped pairs, walks.
+-- What the contracts cite: machines, runs, reachable states, windows, how far one was possible, the decoder's answer, the index of a
+-- window, the product machine, looped pairs, walks.
 pub mod Machine
 pub mod Word
 pub mod Reachable

@@ -42,7 +42,9 @@ count-of f w received k a =
     }
 
 -- an answer is none exactly where no run gives the letters
-none-run : (f : List ℕ) (w : Window) (received : List ℕ) (v : Answer) → AnsweredBy f w received v → (k : ℕ) → v ≡ None k → NoRun (windowSetting f w) received
+none-run :
+    (f : List ℕ) (w : Window) (received : List ℕ) (v : Answer) → AnsweredBy f w received v → (k : ℕ) → v ≡ None k →
+    NoRun (windowSetting f w) received
 none-run f w received v a k e = let b : AnsweredBy f w received (None k) = rw e at a in far-no-run (b .right)
 
 run-none :

@@ -4,9 +4,9 @@
 -- (Alphabet.antt). Beside this file: reader and writer of coder files as inverses (Files.antt), refusal 10 by cases on O (TableLimit.antt),
 -- spare states (SpareStates.antt), what a settle count changes (SettleCounts.antt), that the checker accepts what the search gives
 -- (SearchChecked.antt), that a table shows whether its window works (TableShows.antt), how far a window was possible (HowFar.antt), that no
--- promise is empty (Exists.antt), the starred cases (Starred.antt). The crate theorems_kinds has what is said of kinds of letter. The runs that pairs go by start in reachable states
--- (document 02, 5/13): `settingOf`. Those of windows and answers start where as many letters as the settle count says lead from there
--- (6/13): `settingAfter`, and of the decoder's calls `windowSetting`.
+-- promise is empty (Exists.antt), the starred cases (Starred.antt). The crate theorems_kinds has what is said of kinds of letter. The runs
+-- that pairs go by start in reachable states (document 02, 5/13): `settingOf`. Those of windows and answers start where as many letters as
+-- the settle count says lead from there (6/13): `settingAfter`, and of the decoder's calls `windowSetting`.
 use Prim.Native.Nat.{ℕ, suc, _+_, _≤_, _<_}
 use mathlib.Core.Path.{_≡_}
 use mathlib.Core.Bool.{Bool, true}
@@ -140,8 +140,8 @@ pub record Demand1 : Type 0 where
 
 -- Second sentence, for the answer v on the letters w of a window with b letters before the present one: v is right; and where one letter
 -- alone fits, where no run from a start state has these outputs, and where two letters fit, v is that letter, "none" and "several". Where v
--- is "none", no such run has these outputs, and v carries how far the window was possible (document 02, 9/13, second sentence): some such run
--- has so many of the outputs, from the first on, and none has one more.
+-- is "none", no such run has these outputs, and v carries how far the window was possible (document 02, 9/13, second sentence): some such
+-- run has so many of the outputs, from the first on, and none has one more.
 pub record Said (S : Setting) (w : List ℕ) (b : ℕ) (v : theory.Answer) : Type 0 where
   pub right : Answers S w b v
   pub letter : (x : ℕ) → Alone S w b x → v ≡ theory.letter x

@@ -77,18 +77,21 @@ loop-again c =
     let s = at .before .before .before in
     let p = s .args in
     let i = at .loop in
-    let part = take (i .k + p .n - i .k) (drop (i .k) (p .received .now)) in
+    let from = drop (i .k) (p .received .now) in
+    let part = take (i .k + p .n - i .k) from in
     let n : i .k + p .n - i .k ≡ p .n = omega arith in
     let t = d .before .before .loop-test .taken in
     let q = s .pre .windows in
     let h = s .pre .present in
-    let below = letters-take 64 (i .k + p .n - i .k) (drop (i .k) (p .received .now)) (letters-drop 64 (i .k) (p .received .now) (s .pre .below)) in
+    let below = letters-take 64 (i .k + p .n - i .k) from (letters-drop 64 (i .k) (p .received .now) (s .pre .below)) in
     let inside : p .b < length part = rw n (part-long (p .n) (p .received .now) (i .k) (omega arith) h) in (
       search needs,
       search needs,
       λ e a. written-more (i .inv .2 e a) (omega (arith, s .pre, i .inv, d .before .before .loop-test))
           (rw (c .answer-byte .ensures, c .before .answer-of .ensures)
-          (rw n at (letters-byte (fromWord e (p .starts)) part (p .b) inside (some-far (a .sound) (a .starts-are) part) 0 (fits-in a part (p .b) below (d .fitting .ensures))))),
+          (rw n at
+          (letters-byte (fromWord e (p .starts)) part (p .b) inside (some-far (a .sound) (a .starts-are) part) 0
+          (fits-in a part (p .b) below (d .fitting .ensures))))),
     )
 
 same-length : tie.Need-same-length Inv-loop μ-loop
