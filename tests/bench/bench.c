@@ -248,14 +248,14 @@ static void bench_string(const char *name, size_t b, size_t a, size_t n)
 
 static const size_t sides[][2] = {{1, 0}, {2, 0}, {8, 0}, {60, 0}, {2, 2}, {8, 8}, {0, 60}};
 
-/* A coded string with windows of each shape; with letters drawn anew, 0: none. */
-static void bench_strings(const char *coder, const char *damage, size_t every)
+/* A coded string with windows of each shape; every so many letters one is drawn anew, 0: none. */
+static void bench_strings(const char *coder, size_t every)
 {
-    char name[120];
+    char name[100];
     size_t k;
 
     for (k = 0; k < sizeof sides / sizeof *sides; k++) {
-        sprintf(name, "string: %s, window %lu %lu%s", coder, (unsigned long)sides[k][0], (unsigned long)sides[k][1], damage);
+        sprintf(name, "string: %s, window %lu %lu", coder, (unsigned long)sides[k][0], (unsigned long)sides[k][1]);
         bench_damaged(name, sides[k][0], sides[k][1], LETTERS, every);
     }
 }
@@ -284,11 +284,11 @@ static void bench_window(const char *name, size_t b, size_t a, size_t place)
 static void bench_windows(void)
 {
     bench_window("window: 16 states, 64 outputs, 3 2", 3, 2, 6);
-    bench_window("window: the same, no run from its first letters on", 3, 2, 2);
-    bench_window("window: the same, no run with its last letter", 3, 2, 5);
+    bench_window("window: the same, 3 2, first letters", 3, 2, 2);
+    bench_window("window: the same, 3 2, all letters but the last", 3, 2, 5);
     bench_window("window: 16 states, 64 outputs, 136 136", 136, 136, 273);
-    bench_window("window: the same, no run from its first letters on", 136, 136, 2);
-    bench_window("window: the same, no run with its last letter", 136, 136, 272);
+    bench_window("window: the same, 136 136, first letters", 136, 136, 2);
+    bench_window("window: the same, 136 136, all letters but the last", 136, 136, 272);
 }
 
 static void bench_run(const char *name)
@@ -631,24 +631,24 @@ int main(void)
 
     example_a();
     bench_run("run: A, 20,000 letters");
-    bench_strings("A", "", 0);
+    bench_strings("A", 0);
     bench_table("table: A, 65,536 bytes", 8, 7);
     bench_write("write: A, 14 bytes");
     any_coder(16, 16, 64);
     bench_run("run: 16 states, 16 inputs, 64 outputs, 20,000 letters");
-    bench_strings("16 states, 16 inputs, 64 outputs", "", 0);
+    bench_strings("16 states, 16 inputs, 64 outputs", 0);
     bench_write("write: 16 states, 16 inputs, 64 outputs, 518 bytes");
     any_coder(16, 16, 16);
     bench_table("table: 16 states, 16 inputs, 16 outputs, 65,536 bytes", 2, 1);
     any_coder(16, 16, 4);
-    bench_strings("16 states, 16 inputs, 4 outputs", "", 0);
+    bench_strings("16 states, 16 inputs, 4 outputs", 0);
     bench_table("table: 16 states, 16 inputs, 4 outputs, 65,536 bytes", 4, 3);
     bench_all_pairs();
     bench_settle();
     bench_all_kinds();
     any_coder(16, 16, 64);
-    bench_strings("16 states, 64 outputs", ", every 16th letter anew", 16);
-    bench_strings("16 states, 64 outputs", ", every letter anew", 1);
+    bench_strings("16 states, one letter of 16 anew", 16);
+    bench_strings("16 states, every letter anew", 1);
     bench_windows();
     return 0;
 }

@@ -1,11 +1,11 @@
 // A string, place by place.
 ghost use Rattle.decoder.specs.Places.{PlacesAsked, PlacesGiven};
+use fitting::inner::answer::UNCOUNTED;
 use fitting::inner::answer::answer_byte;
 use fitting::inner::answer::answer_of;
 use fitting::inner::window::fitting;
 
-// Decodes the parts of n letters that start at the first m places of the received letters, each by itself. A byte has no count: 0
-// stands for it.
+// Decodes the parts of n letters that start at the first m places of the received letters, each by itself.
 pub fn decode_places<'a>(
     next: &'a [u8; 256],
     successors: &'a [u16; 1024],
@@ -33,7 +33,7 @@ pub fn decode_places<'a>(
             &received[k..end],
             b,
         );
-        output[k] = answer_byte(answer_of(fit, 0));
+        output[k] = answer_byte(answer_of(fit, UNCOUNTED));
         k += 1;
     }
 }

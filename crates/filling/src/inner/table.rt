@@ -7,11 +7,11 @@ use crate::inner::sets::advance;
 use crate::inner::sets::letters_after;
 use crate::inner::sets::present_after;
 use crate::inner::sets::start_sets;
+use fitting::inner::answer::UNCOUNTED;
 use fitting::inner::answer::answer_byte;
 use fitting::inner::answer::answer_of;
 
-// Fills the part of the table whose windows have one letter more. `here` says whether that is the present one. A byte has no count: 0
-// stands for it.
+// Fills the part of the table whose windows have one letter more. `here` says whether that is the present one.
 fn fill_last<'a>(
     start: &'a [u16; 65],
     entries: &'a [u8; 256],
@@ -25,7 +25,7 @@ fn fill_last<'a>(
 {
     let mut o = 0;
     while o < outputs {
-        table[o] = answer_byte(answer_of(letters_after(start, entries, v, o, here), 0));
+        table[o] = answer_byte(answer_of(letters_after(start, entries, v, o, here), UNCOUNTED));
         o += 1;
     }
 }

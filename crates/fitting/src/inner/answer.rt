@@ -9,6 +9,9 @@ pub const NONE: u8 = 254;
 
 pub const SEVERAL: u8 = 255;
 
+// What stands for the count of none where it is not looked for: the bytes of strings and tables have none, and kinds have none.
+pub const UNCOUNTED: usize = 0;
+
 // With no letter, none with the count `far`; with more letters than its greatest one, several.
 pub fn answer_of(u: u16, far: usize) -> Answer
     ensures { λ r. ⌜ r ≡ answerOf u far ⌝ }

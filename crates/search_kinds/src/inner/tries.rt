@@ -9,6 +9,7 @@ use crate::inner::letters::apart_words;
 use crate::inner::letters::letters_of;
 use coder::inner::tables::Coder;
 use fitting::Answer;
+use fitting::inner::answer::UNCOUNTED;
 use fitting::inner::answer::answer_of;
 use least::LeastWindow;
 use least::inner::least_for;
@@ -76,7 +77,7 @@ fn carries<'a>(
     requires { ⌜ KindAsked c (now last) (now previous) (now backs) (now forwards) (now kinds) k ⌝ }
     ensures { λ r. ⌜ SomeTold c (now (backs .entry)) (now (forwards .entry)) (DifferentWithin (kindOf (now (kinds .entry))) k) r ⌝ }
 {
-    let letters = answer_of(letters_of(kinds, k), 0);
+    let letters = answer_of(letters_of(kinds, k), UNCOUNTED);
     match letters {
         Answer::Several => some_window(c, last, previous, backs, forwards, kinds, k),
         Answer::None(_) => true,

@@ -7,6 +7,7 @@ ghost use Rattle.window_kinds.specs.Answer.{ofKind, shared, kindOrSevera
 use crate::KindsAnswer;
 use coder::inner::tables::Coder;
 use fitting::Answer;
+use fitting::inner::answer::UNCOUNTED;
 use fitting::inner::answer::answer_of;
 use kind_list::inner::kind_of;
 use setting::inner::has;
@@ -56,7 +57,7 @@ pub fn kinds_answer(kinds: &[u8], set: u16) -> KindsAnswer
     requires { ⌜ KindsLow (now kinds) ⌝ }
     ensures { λ r. ⌜ r ≡ kindsAnswerOf (kindOf (now (kinds .entry))) set ⌝ }
 {
-    let a = answer_of(set, 0);
+    let a = answer_of(set, UNCOUNTED);
     match a {
         Answer::Letter(x) => KindsAnswer::Letter(x),
         Answer::None(_) => KindsAnswer::None,
