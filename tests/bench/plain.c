@@ -186,6 +186,14 @@ static uint8_t answer(unsigned letters)
     return letters & (letters - 1) ? 255 : (uint8_t)__builtin_ctz(letters);
 }
 
+/* The numbers of a window: 8, 14, or 0. */
+static size_t limits(size_t before, size_t after, size_t settle)
+{
+    if (before > 136 || after > 136)
+        return 8;
+    return settle > 64 ? 14 : 0;
+}
+
 /* The letters that fit one window: forward to the present letter, backward from the end, and the entries between the
    two. */
 static unsigned fitting(const coder *c, const sets *d, const uint8_t *w, size_t before, size_t after)
@@ -226,10 +234,8 @@ size_t plain_decode(const uint8_t *file, size_t file_len, size_t before, size_t 
 
     if (r)
         return r;
-    if (before > 136 || after > 136)
-        return 8;
-    if (settle > 64)
-        return 14;
+    if ((r = limits(before, after, settle)) != 0)
+        return r;
     n = received_len < before + 1 + after ? 0 : received_len - before - after;
     if (output_len < n)
         return 11;
@@ -266,10 +272,8 @@ size_t plain_window(const uint8_t *file, size_t file_len, size_t before, size_t 
 
     if (r)
         return r;
-    if (before > 136 || after > 136)
-        return 8;
-    if (settle > 64)
-        return 14;
+    if ((r = limits(before, after, settle)) != 0)
+        return r;
     if (received_len != before + 1 + after)
         return 9;
     if (!below(received, received_len, c.outputs))
@@ -353,10 +357,8 @@ size_t plain_table(const uint8_t *file, size_t file_len, size_t before, size_t a
 
     if (r)
         return r;
-    if (before > 136 || after > 136)
-        return 8;
-    if (settle > 64)
-        return 14;
+    if ((r = limits(before, after, settle)) != 0)
+        return r;
     for (k = 0; k < before + 1 + after && size <= 65536; k++)
         size *= c.outputs;
     if (size > 65536)

@@ -29,6 +29,12 @@ module _ (S : Setting) (w : List ℕ) (b : ℕ) where
   pub far-no-fit : (k : ℕ) → HowFar S w k → (x : ℕ) → Fits S w b x → ⊥
   far-no-fit k h x f = far-no-run h (record { s = f .s; xs = f .xs; start = f .start; letters = f .letters; outputs = f .outputs })
 
+  -- where no run gives the outputs a right answer is none
+  pub no-run-none : b < length w → NoRun S w → (v : Answer) → Answers S w b v → (k : ℕ) × (v ≡ none k)
+  no-run-none l n (letter x) p = absurd (no-fit↔no-run l .1 n x (p .fits))
+  no-run-none l n (none k) p = (k, refl)
+  no-run-none l n several p = absurd (no-fit↔no-run l .1 n (p .x) (p .fits₁))
+
   alone-two : (x : ℕ) → Alone S w b x → Two S w b → ⊥
   alone-two x p q = q .differ (p .alone (q .x) (q .fits₁) ∙ sym (p .alone (q .y) (q .fits₂)))
 

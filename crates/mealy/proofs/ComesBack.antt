@@ -2,15 +2,15 @@
 -- went in. It is said of what fits, so that no program that copies its input meets it.
 use mathlib.Core.Path.{_≡_, refl, sym, ap, _∙_}
 use mathlib.Core.Logic.{_≢_}
-use mathlib.Core.List.{List, [], _∷_}
-use Prim.Native.Nat.{ℕ, zero, suc, _+_, _≤_}
+use mathlib.Core.List.{List}
+use Prim.Native.Nat.{ℕ, _+_, _≤_}
 use native.Mathlib.Omega.{arith}
 use native.Mathlib.Decide.{ℕ-discrete}
 use lib.ListN.{length, getD, take, drop, length-drop}
 use lib.Seq.{length-take-le, getD-take, getD-drop}
-use Rattle.mealy.specs.Machine.{Machine, outs, end, Letters}
-use Rattle.mealy.specs.Setting.{Setting, Closed}
-use Rattle.mealy.specs.Window.{EqualOutputs, Works}
+use Rattle.mealy.specs.Machine.{outs, end, Letters}
+use Rattle.mealy.specs.Setting.{Setting}
+use Rattle.mealy.specs.Window.{Works}
 use Rattle.mealy.specs.Answer.{letter, Answers}
 use Rattle.mealy.proofs.RunParts.{length-outs, take-outs, drop-outs, letters-take, letters-drop}
 

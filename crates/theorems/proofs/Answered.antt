@@ -1,10 +1,9 @@
 -- A window that was answered, by the library's own call and from C, and what a host reads of its answer.
-use mathlib.Core.Path.{_≡_, refl, ap, _∙_}
+use mathlib.Core.Path.{_≡_, refl}
 use mathlib.Core.Bool.{true}
 use mathlib.Core.List.{List, [], _∷_}
 use Prim.Native.Nat.{ℕ, zero, suc, _≤_, _<_}
 use native.Mathlib.Omega.{arith}
-use lib.ListN.{length}
 use lib.Dec.{lit<}
 use Rattle.mealy.specs.Setting.{Setting}
 use Rattle.mealy.specs.Answer as theory
@@ -78,7 +77,7 @@ unfolding machineOf
 inputs-few f z = accepted f z .entries .limits .inputs-high
 
 -- a right letter is below 16 where the input letters are
-letter-small : (S : Setting) (w : List ℕ) (b x : ℕ) → S .M .inputs ≤ 16 → Answers S w b (theory.letter x) → x < 16
+pub letter-small : (S : Setting) (w : List ℕ) (b x : ℕ) → S .M .inputs ≤ 16 → Answers S w b (theory.letter x) → x < 16
 letter-small S w b x l h =
     omega (arith, letter-at (S .M .inputs) (h .fits .xs) (h .fits .letters) b (h .fits .inside), h .fits .letter)
 

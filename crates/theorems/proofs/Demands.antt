@@ -2,7 +2,7 @@
 use mathlib.Core.Path.{_≡_, refl, ap, subst, _∙_}
 use mathlib.Core.Bool.{Bool, true}
 use mathlib.Core.List.{List, [], _++_}
-use Prim.Native.Nat.{ℕ, zero, suc, _+_, _<_, _≤_}
+use Prim.Native.Nat.{ℕ, zero, suc, _+_, _<_}
 use native.Mathlib.Omega.{arith}
 use lib.ListN.{length, getD, take, drop, length-drop}
 use lib.Seq.{take-at, length-take-le}
@@ -11,13 +11,11 @@ use Rattle.mealy.specs.Setting.{Setting}
 use Rattle.mealy.specs.Answer as theory
 use Rattle.mealy.specs.Answer.{Answers, byteOf}
 use Rattle.mealy.specs.Index.{windowAt}
-use Rattle.mealy.specs.HowFar.{NoRun, HowFar}
+use Rattle.mealy.specs.HowFar.{HowFar}
 use Rattle.mealy.proofs.Possible.{far-no-run}
-use Rattle.mealy.proofs.Answers.{answer-unique, no-fit↔no-run}
+use Rattle.mealy.proofs.Answers.{answer-unique, no-run-none}
 use Rattle.mealy.proofs.RunParts.{length-outs}
 use Rattle.mealy.proofs.Indices.{length-window}
-use Rattle.mealy.proofs.Letters.{letter-at}
-use Rattle.coder.proofs.Accepted.{accepted}
 use Rattle.coder.specs.Refusal.{upon, answer}
 use Rattle.coder.specs.File.{entriesOf, fileRefusal, outputsOf, machineOf}
 use Rattle.running.specs.Run.{runRefusalIn, RunPromise}
@@ -31,15 +29,10 @@ use Rattle.values.specs.declared.CountResult.{CountResult}
 use Rattle.values.specs.declared.CountResult as count-result
 use Rattle.fitting.specs.Answer.{meaning, RightByte}
 use Rattle.fitting.specs.declared.Answer.{Answer}
-use Rattle.decoder_refusal.specs.Refusal.{windowRefusal}
 use Rattle.decoder.specs.Written.{Written}
 use Rattle.decoder.specs.Count.{CountPromise}
-use Rattle.decoder.specs.Window.{windowSetting, AnsweredRight, WindowWith, WindowPromise}
-use Rattle.decoder.specs.declared.WindowResult.{WindowResult}
-use Rattle.decoder.specs.declared.WindowResult as window-result
-use Rattle.decoder_host.specs.Laid.{laidWindow, WindowFromHost}
-use Rattle.decoder_host.proofs.Hosting.{window-enough}
-use Rattle.decoder_refusal.proofs.Accepting.{window-accepted}
+use Rattle.decoder.specs.Window.{windowSetting}
+use Rattle.decoder_host.specs.Laid.{WindowFromHost}
 use Rattle.search.specs.Search.{searchRefusalIn, SaysOf, RefusedSearch, SearchPromise}
 use Rattle.search.specs.declared.SearchResult.{SearchResult}
 use Rattle.search.specs.declared.SearchResult as search-result
@@ -49,8 +42,8 @@ use Rattle.search.specs.declared.Verdict.the-variants.{Least, NoDecoder}
 use Rattle.search.proofs.Determined.{found, no-decoder-exactly}
 use Rattle.writer.specs.Write.{writeRefusalIn}
 use Rattle.layout.specs.Layout.{fieldAt}
-use Rattle.layout.specs.Host.{LaidOut, Handed}
-use Rattle.layout.proofs.Hosting.{no-fields, from-host, answered-host}
+use Rattle.layout.specs.Host.{Handed}
+use Rattle.layout.proofs.Hosting.{no-fields, from-host}
 use Rattle.published.specs.Published.{longEnough}
 use Rattle.theorems.specs.Demands.{Demand1, Said, byteSaid, SaidByte, Demand2, Demand3, NoLater, Demanded, FromC}
 use Rattle.published.proofs.Published.{file-published, run-published, search-published, check-published, window-published}
@@ -58,7 +51,7 @@ use Rattle.published.proofs.Published.{string-published, table-published, searc
 use Rattle.published.proofs.Published.{write-published, result-published}
 use Rattle.theorems.proofs.Counted.{counted}
 use Rattle.theorems.proofs.Answered.{AnsweredBy, window-answered, answered-from-C, byte-read}
-use Rattle.theorems.proofs.HostReads.{first-read, search-found}
+use Rattle.theorems.proofs.HostReads.{search-found}
 use Rattle.theorems.proofs.RoundTrip.{round-trip}
 use Rattle.theorems.proofs.HostRoundTrip.{host-round-trip}
 
@@ -154,7 +147,7 @@ said S w b l v h =
     record {
       right = h;
       letter = λ x a. answer-unique S w b v (theory.letter x) h a;
-      none = none-said v h;
+      none = λ n. no-run-none S w b l n v h;
       several = λ two. answer-unique S w b v theory.several h two;
       no-run = λ k e. far-no-run (none-of k e);
       count = λ k e. (none-of k e .inside, none-of k e .possible, none-of k e .no-further);
@@ -162,11 +155,6 @@ said S w b l v h =
   where
     none-of : (k : ℕ) → v ≡ theory.none k → HowFar S w k
     none-of k e = rw e at h
-
-    none-said : (u : theory.Answer) → Answers S w b u → NoRun S w → (k : ℕ) × (u ≡ theory.none k)
-    none-said (theory.letter x) r n = absurd (no-fit↔no-run S w b l .1 n x (r .fits))
-    none-said (theory.none k) r n = (k, refl)
-    none-said theory.several r n = absurd (no-fit↔no-run S w b l .1 n (r .x) (r .fits₁))
 
 said-byte : (S : Setting) (w : List ℕ) (b v : ℕ) → b < length w → RightByte S w b v → SaidByte S w b v
 said-byte S w b v l r = record { answer = r .answer; said = said S w b l (r .answer) (r .right); byte = r .byte ∙ bytes-said (r .answer) }

@@ -8,7 +8,7 @@ use lib.ListN.{take, drop}
 use Rattle.mealy.specs.HowFar.{SomeRun, NoRun}
 use Rattle.mealy.specs.Answer.{byteOf}
 use Rattle.mealy.proofs.Possible.{far-longest, far-unique, far-no-run}
-use Rattle.mealy.proofs.Answers.{no-fit↔no-run}
+use Rattle.mealy.proofs.Answers.{no-run-none}
 use Rattle.mealy.proofs.Unseen.{some-run↔after}
 use Rattle.coder.specs.File.{machineOf}
 use Rattle.values.specs.Window as values
@@ -16,6 +16,7 @@ use Rattle.values.specs.declared.Window.{Window}
 use Rattle.fitting.specs.Answer.{meaning}
 use Rattle.fitting.specs.declared.Answer.{Answer}
 use Rattle.fitting.specs.declared.Answer.the-variants.{Letter, None, Several}
+use Rattle.fitting.proofs.Answers.{meaning-injective}
 use Rattle.decoder.specs.Window.{windowSetting}
 use Rattle.decoder_host.specs.Laid.{answerFields}
 use Rattle.layout.specs.Layout.{withFields, fieldAt}
@@ -50,13 +51,10 @@ none-run f w received v a k e = let b : AnsweredBy f w received (None k) = rw e 
 run-none :
     (f : List ℕ) (w : Window) (received : List ℕ) (v : Answer) → AnsweredBy f w received v → NoRun (windowSetting f w) received →
     (k : ℕ) × (v ≡ None k)
-run-none f w received (Letter x) a n =
-    let inside = a .accepted-call .long in
-    absurd (no-fit↔no-run (windowSetting f w) received (w .before) (omega arith) .1 n x (a .right .fits))
-run-none f w received (None k) a n = (k, refl)
-run-none f w received Several a n =
-    let inside = a .accepted-call .long in
-    absurd (no-fit↔no-run (windowSetting f w) received (w .before) (omega arith) .1 n _ (a .right .fits₁))
+run-none f w received v a n =
+    let long = a .accepted-call .long in
+    let k = no-run-none (windowSetting f w) received (w .before) (omega arith) n (meaning v) (a .right) in
+    (k .0, meaning-injective v (None (k .0)) (k .1))
 
 -- another present place: the same letters and the same start states
 other-place :

@@ -11,7 +11,6 @@ use Rattle.mealy.specs.Setting.{Setting}
 use Rattle.mealy.specs.Window.{Works}
 use Rattle.mealy.specs.Answer.{Answer, letter, none, several, Two, Answers, byteOf}
 use Rattle.mealy.specs.Index.{indexOf, windowAt}
-use Rattle.mealy.proofs.Letters.{letter-at}
 use Rattle.mealy.proofs.Indices.{length-window, index-below, index-window}
 use Rattle.mealy.proofs.Answers.{answer-unique}
 use Rattle.mealy.proofs.RunParts.{length-outs}
@@ -29,6 +28,7 @@ use Rattle.decoder_host.proofs.Hosting.{table-enough}
 use Rattle.layout.specs.Host.{laidCount}
 use Rattle.layout.proofs.Hosting.{not-refused, answered-host}
 use Rattle.decoder_refusal.proofs.Accepting.{table-accepted}
+use Rattle.theorems.proofs.Answered.{letter-small}
 use Rattle.theorems.proofs.Counted.{Counted, counted}
 use Rattle.theorems.specs.TableShows.{Shows, TableShows}
 use Rattle.theorems.proofs.RoundTrip.{outs-letters}
@@ -37,9 +37,7 @@ use Rattle.theorems.proofs.HostReads.{first-read}
 -- 255 is the byte of "several" alone, where letters are below 16
 several-byte :
     (S : Setting) (w : List ℕ) (b : ℕ) → S .M .inputs ≤ 16 → (v : Answer) → Answers S w b v → byteOf v ≡ 255 → Two S w b
-several-byte S w b l (letter x) h e =
-    let m = letter-at (S .M .inputs) (h .fits .xs) (h .fits .letters) b (h .fits .inside) in
-    absurd (omega (arith, h .fits .letter))
+several-byte S w b l (letter x) h e = absurd (omega (arith, letter-small S w b x l h))
 several-byte S w b l (none k) h e = absurd (omega arith)
 several-byte S w b l several h e = h
 

@@ -70,7 +70,8 @@ pub fn decode<'a>(
     b: usize,
 ) -> Decoded
     requires { ⌜ Tables (now next) (now successors) (now predecessors) (now letters) starts × Letters maxOutputs (now window) × (b < length (now window)) ⌝ }
-    ensures { λ r. ⌜ DecodeGiven (now (next .entry)) (now (successors .entry)) (now (predecessors .entry)) (now (letters .entry)) starts (now (window .entry)) b (r .letters) (r .far) ⌝ }
+    ensures { λ r. ⌜ DecodeGiven (now (next .entry)) (now (successors .entry)) (now (predecessors .entry)) (now (letters .entry)) starts
+        (now (window .entry)) b (r .letters) (r .far) ⌝ }
 {
     let fit = fitting(next, successors, predecessors, letters, starts, window, b);
     if fit == 0 {

@@ -1,6 +1,5 @@
 -- `decode` meets its contract: the letters that fit and the letters that lead to some state, by the tables, are those by the coder's runs.
 use denote.Ref.{now}
-use borrow.Author.Needs.{needs}
 use Rattle.fitting.proofs.Meaning.{tables-asked, decoded-in}
 use Rattle.fitting.proofs.inner.window.decode.Statement.{statement}
 use Rattle.fitting.proofs.inner.window.decode.Tie as tie
