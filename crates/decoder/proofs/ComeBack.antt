@@ -23,23 +23,30 @@ use Rattle.decoder.specs.Written.{Written}
 use Rattle.decoder.specs.Window.{windowSetting}
 use Rattle.decoder.specs.Places.{ByteAt, StringPromise}
 
+-- the letter that went in is the right byte for the part of the coded string at its place
+pub place-comes-back :
+    (f : List ℕ) (w : Window) (s : ℕ) (xs : List ℕ) → Works (windowSetting f w) (w .before) (w .after) → Reachable (machineOf f) s →
+    Letters (inputsOf f) xs → (k : ℕ) → k < places (length xs) w → w .settle ≤ k →
+    ByteAt f (outs (machineOf f) s xs) w k (getD xs (k + w .before) 0)
+unfolding machineOf
+place-comes-back f w s xs works start letters k l ahead =
+    record {
+      answer = letter (getD xs (k + w .before) 0);
+      right =
+          comes-back-at (windowSetting f w) (λ i j d. d) (w .before) (w .after) works s xs k
+          (start-take (machineOf f) (w .settle) k s xs ahead (omega arith) start letters) letters (omega arith);
+      byte = refl;
+    }
+
 pub string-comes-back :
     (f : List ℕ) (w : Window) (s : ℕ) (xs before : List ℕ) (r : CountResult) (after : List ℕ) →
     Works (windowSetting f w) (w .before) (w .after) → Reachable (machineOf f) s → Letters (inputsOf f) xs →
     stringRefusalIn f w (outs (machineOf f) s xs) (length before) true ≡ 0 →
     StringPromise f w (outs (machineOf f) s xs) before r after → (k : ℕ) → k < places (length xs) w → w .settle ≤ k →
     getD after k 0 ≡ getD xs (k + w .before) 0
-unfolding machineOf
 string-comes-back f w s xs before r after works start letters accepted-call p k l ahead =
-    let b = w .before in
     let o = outs (machineOf f) s xs in
     let long : length o ≡ length xs = length-outs (machineOf f) s xs in
     let written : Written (ByteAt f o w) (places (length o) w) before after = rw accepted-call at (p .bytes) in
-    right-byte-unique (windowSetting f w) (take (size w) (drop k o)) b (written .is k (omega arith))
-    (record {
-      answer = letter (getD xs (k + b) 0);
-      right =
-          comes-back-at (windowSetting f w) (λ i j d. d) b (w .after) works s xs k
-          (start-take (machineOf f) (w .settle) k s xs ahead (omega arith) start letters) letters (omega arith);
-      byte = refl;
-    })
+    right-byte-unique (windowSetting f w) (take (size w) (drop k o)) (w .before) (written .is k (omega arith))
+    (place-comes-back f w s xs works start letters k l ahead)

@@ -12,7 +12,7 @@ use Rattle.mealy.specs.Machine.{Machine, outs, end, Letters}
 use Rattle.mealy.specs.Product.{pairs}
 use Rattle.mealy.proofs.RunParts.{length-outs}
 use Rattle.mealy.proofs.ReachableStates.{reachable-along}
-use Rattle.coder.specs.Limits.{maxSide, maxSettle}
+use Rattle.coder.specs.Limits.{maxSide}
 use Rattle.coder.specs.Refusal.{lettersBelow}
 use Rattle.coder.specs.File.{statesOf, inputsOf, outputsOf, machineOf}
 use Rattle.running.specs.Run.{runRefusal, runRefusalIn, RunPromise}
@@ -25,7 +25,7 @@ use Rattle.values.specs.declared.CountResult.the-variants.{Done}
 use Rattle.search.specs.declared.Verdict.the-variants.{Least}
 use Rattle.search.proofs.Files.{search-accepted}
 use Rattle.search.proofs.Determined.{found}
-use Rattle.decoder_refusal.specs.Refusal.{stringRefusal, places, stringRefusalIn}
+use Rattle.decoder_refusal.specs.Refusal.{limitsRefusal, stringRefusal, places, stringRefusalIn}
 use Rattle.decoder.specs.Places.{StringPromise}
 use Rattle.decoder_refusal.proofs.Accepting.{limits-pass}
 use Rattle.decoder.proofs.ComeBack.{string-comes-back}
@@ -40,6 +40,13 @@ letters-test n (x ∷ xs) l = rw (lt-ltb x n (l .0)) (letters-test n xs (l .1))
 pub outs-letters : (M : Machine) (n : ℕ) → ((s i : ℕ) → M .out s i < n) → (s : ℕ) (xs : List ℕ) → Letters n (outs M s xs)
 outs-letters M n h s [] = tt
 outs-letters M n h s (x ∷ xs) = (h s x, outs-letters M n h (M .next s x) xs)
+
+-- a string with room for its bytes and letters below O is not refused
+pub string-pass :
+    (f : List ℕ) (w : Window) (received : List ℕ) (room : ℕ) → limitsRefusal f w ≡ 0 → places (length received) w ≤ room →
+    Letters (outputsOf f) received → stringRefusalIn f w received room true ≡ 0
+unfolding stringRefusal
+string-pass f w received room e n h = rw (e, le-leb (places (length received) w) room n, letters-test (outputsOf f) received h)
 
 -- ---- the three calls
 
@@ -61,14 +68,6 @@ module _ (f : List ℕ) (s : ℕ) (xs : List ℕ) (coded : Coded f s xs) where
   unfolding runRefusal
   not-refused before l = rw (coded .file, lt-ltb s (statesOf f) start-low, le-leb (length xs) (length before) l, letters-test (inputsOf f) xs (coded .letters))
 
-  string-ok :
-      (w : Window) (received before : List ℕ) → w .before ≤ maxSide → w .after ≤ maxSide → w .settle ≤ maxSettle →
-      places (length received) w ≤ length before → Letters (outputsOf f) received →
-      stringRefusalIn f w received (length before) true ≡ 0
-  unfolding stringRefusal
-  string-ok w received before l m k n h =
-      rw (limits-pass f w (coded .file) l m k, le-leb (places (length received) w) (length before) n, letters-test (outputsOf f) received h)
-
   -- the letters that a run wrote
   pub wrote :
       (before after : List ℕ) (r : RunResult) → length xs ≤ length before → RunPromise f s xs before r after →
@@ -87,9 +86,11 @@ round-trip f s xs coded before₁ r₁ after₁ l h o p before₂ w after₂ q b
     let high : pairs (machineOf f .states) ≤ maxSide = rw (states-are f) (pairs-high (statesOf f) limit) in
     let d′ : StringPromise f w os before₃ r₃ after₃ = rw (wrote f s xs coded before₁ after₁ r₁ l h) at d in
     let long : length os ≡ length xs = length-outs (machineOf f) s xs in
+    let limits : limitsRefusal f w ≡ 0 =
+    limits-pass f w (coded .file) (omega (arith, report .before-small)) (omega (arith, report .after-small))
+    (omega (arith, report .settle)) in
     let z : stringRefusalIn f w os (length before₃) true ≡ 0 =
-    string-ok f s xs coded w os before₃ (omega (arith, report .before-small)) (omega (arith, report .after-small))
-    (omega (arith, report .settle)) (rw long m)
+    string-pass f w os (length before₃) limits (rw long m)
     (outs-letters (machineOf f) (outputsOf f) (output-below f (accepted f (coded .file))) s xs) in
     record {
       ran = rw (not-refused f s xs coded before₁ l) at (h .result);

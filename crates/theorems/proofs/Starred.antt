@@ -114,7 +114,7 @@ partByte f p b part = byteOf (meaning (decoded f p part b))
 abbrev entryByte : List ℕ → ℕ → ℕ → ℕ → ℕ → ℕ
 entryByte f p n b k = partByte f p b (windowAt (outputsOf f) n k)
 
-unfoldable test : List ℕ → Claim → Bool
+unfoldable pub test : List ℕ → Claim → Bool
 test f (claimed.counts n i o) = eqb (statesOf f) n && (eqb (inputsOf f) i && eqb (outputsOf f) o)
 test f (claimed.written n i o entries) = eqb (entriesRefusal n i o entries) 0 && sameList (fileOf n i o entries) f
 test f (claimed.window o b a p) = leb p maxSettle && leastTest (machineOf f) (startsOf f p) apart o b a
@@ -273,7 +273,7 @@ module _ (f : List ℕ) (z : fileRefusal f ≡ 0) where
   reachable-starts : member.Holds (Reachable (machineOf f)) (startsOf f 0)
   reachable-starts = holds-map (λ s. start-zero (machineOf f) s .0) (λ s. start-zero (machineOf f) s .1) (file-starts f z 0)
 
-  claim-holds : (c : Claim) → test f c ≡ true → Holds f c
+  pub claim-holds : (c : Claim) → test f c ≡ true → Holds f c
   unfolding test
   claim-holds (claimed.counts n i o) e =
       let t = both-true (eqb (statesOf f) n) (eqb (inputsOf f) i && eqb (outputsOf f) o) e in

@@ -1,8 +1,8 @@
 -- A decoder table shows whether its window works: it does exactly where no byte of the table is 255.
 use mathlib.Core.Path.{_≡_, refl, sym, ap, subst, _∙_}
 use mathlib.Core.Logic.{_≢_}
-use mathlib.Core.Bool.{true}
-use mathlib.Core.List.{List, []}
+use mathlib.Core.Bool.{Bool, true}
+use mathlib.Core.List.{List}
 use Prim.Native.Nat.{ℕ, _+_, _<_, _≤_}
 use native.Mathlib.Omega.{arith}
 use lib.ListN.{length, getD}
@@ -23,16 +23,13 @@ use Rattle.values.specs.declared.Window.{Window}
 use Rattle.values.specs.declared.CountResult as count
 use Rattle.decoder_refusal.specs.Refusal.{tableSize, tableRefusalIn}
 use Rattle.decoder.specs.Window.{windowSetting}
-use Rattle.decoder.specs.Table.{EntryOf, TableWith, TablePromise}
-use Rattle.decoder_host.proofs.Hosting.{table-enough}
-use Rattle.layout.specs.Host.{laidCount}
-use Rattle.layout.proofs.Hosting.{not-refused, answered-host}
-use Rattle.decoder_refusal.proofs.Accepting.{table-accepted}
+use Rattle.decoder.specs.Table.{EntryOf}
+use Rattle.layout.specs.Layout.{fieldAt}
+use Rattle.decoder_refusal.proofs.Accepting.{table-accepted, table-others}
 use Rattle.theorems.proofs.Answered.{letter-small}
-use Rattle.theorems.proofs.Counted.{Counted, counted}
+use Rattle.theorems.proofs.Counted.{Counted, counted, counted-from-C}
 use Rattle.theorems.specs.TableShows.{Shows, TableShows}
 use Rattle.theorems.proofs.RoundTrip.{outs-letters}
-use Rattle.theorems.proofs.HostReads.{first-read}
 
 -- 255 is the byte of "several" alone, where letters are below 16
 several-byte :
@@ -58,10 +55,11 @@ never-two S different b a works w long t =
     })
     (different _ _ (λ e. t .differ (sym (f .letter) ∙ e ∙ g .letter)))
 
-module _ (f : List ℕ) (w : Window) (before : List ℕ) (n : ℕ) (after : List ℕ) (p : TablePromise f w before (count.the-variants.Done n) after) where
-  t : Counted (tableRefusalIn f w (length before) true) (tableSize (outputsOf f) w) (EntryOf f w) n after
-  t = counted _ _ _ before n after p
+-- a table that was filled: the call was not refused, and each of its n bytes is right
+abbrev Filled : List ℕ → Window → ℕ → ℕ → List ℕ → Type 0
+Filled f w room n after = Counted (tableRefusalIn f w room true) (tableSize (outputsOf f) w) (EntryOf f w) n after
 
+module _ (f : List ℕ) (w : Window) (room n : ℕ) (after : List ℕ) (t : Filled f w room n after) where
   file : Accepted f
   file = accepted f (table-accepted f w _ (t .accepted) .limits .file)
 
@@ -124,16 +122,11 @@ module _ (f : List ℕ) (w : Window) (before : List ℕ) (n : ℕ) (after : List
 pub table-shows : TableShows
 table-shows =
     record {
-      own = shows;
+      own = λ f w before n after p. shows f w (length before) n after (counted _ _ _ before n after p);
       from-C = λ f w before result after result′ h.
-          let g =
-          answered-host (λ others own. TableWith f w before others own after) laidCount
-          (λ others own. table-enough f w before after others own) refl h in
-          let k = tableRefusalIn f w (length before) true in
-          let z = not-refused laidCount k (λ j. count.the-variants.Refused j) _ (λ j. refl) (g .promised .result) (sym (g .out .number)) in
-          let n = tableSize (outputsOf f) w in
-          let done : g .own ≡ count.the-variants.Done n = rw z at (g .promised .result) in
-          let small = table-accepted f w _ z .small in
-          let read = first-read result (laidCount (g .own)) n [] (ap laidCount done) (omega (arith, small)) (g .out) .1 in
-          rw read (shows f w before n after (rw done at (g .promised)));
+          let refusal : Bool → ℕ = λ others. tableRefusalIn f w (length before) others in
+          let t =
+          counted-from-C refusal (tableSize (outputsOf f) w) (EntryOf f w) before after (table-others f w (length before))
+          (λ z. omega (arith, table-accepted f w _ z .small)) h in
+          shows f w (length before) (fieldAt result′ 0) after t;
     }
