@@ -43,7 +43,7 @@ extern "C" {
 #endif
 
 /* The version of this header and of the library; make and pkg-config take it from here. */
-#define LOWHENITA_VERSION "1.9"
+#define LOWHENITA_VERSION "1.10"
 
 /* Limits of a coder: states, input letters, output letters; the bytes of its file. */
 #define LOWHENITA_MAX_STATES 16
@@ -188,6 +188,8 @@ size_t lowhenita_search(const uint8_t *file, size_t file_len,
  * k + before and is decoded from the window's own letters alone, not from those ahead of it. With a window that works, the letters
  * that a run from a reachable state was given come back at the places that have a full window and `settle` letters ahead of it: bytes
  * settle and on. The bytes before these are decoded in the same way, and nothing more is promised of them.
+ * Damage does not travel: of two strings decoded with the same file and the same three numbers, a window whose letters stand in both has
+ * the same byte in both, each at the index at which the window begins there.
  * Field 0: the number of bytes written, received_len - before - after, or 0 where the string is shorter than one window.
  * Refusals, in checking order: 1 to 6, 15, 8, 14, 11 (output too short, or result), 13.
  */

@@ -4,9 +4,10 @@
 -- (Alphabet.antt). Beside this file: reader and writer of coder files as inverses (Files.antt), refusal 10 by cases on O (TableLimit.antt),
 -- spare states (SpareStates.antt), what a settle count changes (SettleCounts.antt), that the checker accepts what the search gives
 -- (SearchChecked.antt), that a table shows whether its window works (TableShows.antt), how far a window was possible (HowFar.antt), that no
--- promise is empty (Exists.antt), the starred cases (Starred.antt). The crate theorems_kinds has what is said of kinds of letter. The runs
--- that pairs go by start in reachable states (document 02, 5/13): `settingOf`. Those of windows and answers start where as many letters as
--- the settle count says lead from there (6/13): `settingAfter`, and of the decoder's calls `windowSetting`.
+-- promise is empty (Exists.antt), the starred cases (Starred.antt). The crate theorems_kinds has what is said of kinds of letter,
+-- theorems_damage that damage to a string does not travel. The runs that pairs go by start in reachable states (document 02, 5/13):
+-- `settingOf`. Those of windows and answers start where as many letters as the settle count says lead from there (6/13): `settingAfter`,
+-- and of the decoder's calls `windowSetting`.
 use Prim.Native.Nat.{ℕ, suc, _+_, _≤_, _<_}
 use mathlib.Core.Path.{_≡_}
 use mathlib.Core.Bool.{Bool, true}

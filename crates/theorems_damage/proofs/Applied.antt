@@ -1,4 +1,4 @@
--- The theorem applied to the worked examples: at the first place behind the altered letter of which it speaks, and ahead of it at the last.
+-- The theorem applied to the worked examples: at the first place of which it speaks behind the altered letter, at the last ahead of it.
 use mathlib.Core.Path.{_≡_, refl}
 use mathlib.Core.Bool.{Bool, true, false}
 use mathlib.Core.Logic.{_≢_}
@@ -13,7 +13,7 @@ use Rattle.values.specs.declared.CountResult.{CountResult}
 use Rattle.values.specs.declared.CountResult.the-variants.{Done}
 use Rattle.decoder.specs.Places.{StringPromise}
 use Rattle.theorems_damage.specs.Change.{Change, kept, altered, lost, added, KeptAt}
-use Rattle.theorems_damage.specs.Damage.{Decoded, SameByte, Same, Undamaged}
+use Rattle.theorems_damage.specs.Damage.{StringDecoded, SameByte, Same, Undamaged}
 use Rattle.theorems_damage.specs.Examples.{Example, Holds, spliced, delayed, noticed, settled}
 use Rattle.theorems_damage.proofs.Examples.{examples-hold}
 use Rattle.theorems_damage.proofs.Travel.{damage-does-not-travel}
@@ -46,12 +46,12 @@ kept-from cs j n e i l m =
 
 -- two calls of an example, where a law says what becomes of them
 applied :
-    (e : Example) → Holds e → (k k′ : ℕ) → Same (Decoded (e .file) (e .window)) (e .changes) k k′ →
+    (e : Example) → Holds e → (k k′ : ℕ) → Same (StringDecoded (e .file) (e .window)) (e .changes) k k′ →
     SameByte (length (e .bytes)) (length (e .bytes′)) (e .bytes) (e .bytes′) k k′
 applied e h k k′ same =
     same _ _ _ _ (rw (h .sent-are) (h .own .undamaged)) (rw (h .received-are) (h .own .damaged))
 
-travels-not : (e : Example) → Undamaged (e .window) (Decoded (e .file) (e .window))
+travels-not : (e : Example) → Undamaged (e .window) (StringDecoded (e .file) (e .window))
 travels-not e = damage-does-not-travel .own (e .file) (e .window)
 
 -- Letters lost and added, and then an altered one: with the settle count's letter behind the altered one the window begins at place 2.

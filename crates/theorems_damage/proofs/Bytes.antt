@@ -16,7 +16,7 @@ use Rattle.layout.specs.Layout.{withFields, fieldAt}
 use Rattle.layout.proofs.Reading.{field-at}
 use Rattle.theorems.specs.RoundTrip.{FieldHolds}
 use Rattle.theorems.proofs.Counted.{Counted, counted, counted-from-C}
-use Rattle.theorems_damage.specs.Damage.{Calls, Decoded, DecodedFromC}
+use Rattle.theorems_damage.specs.Damage.{Calls, StringDecoded, StringDecodedFromC}
 
 pub record Right (f : List ℕ) (w : Window) (letters : List ℕ) (count : ℕ) (after : List ℕ) : Type 0 where
   pub all : count ≡ places (length letters) w
@@ -32,23 +32,23 @@ Wrote f w letters room count after =
     Counted (stringRefusalIn f w letters room true) (places (length letters) w) (ByteAt f letters w) count after
 
 pub own-call :
-    (f : List ℕ) (w : Window) (letters : List ℕ) (count : ℕ) (after : List ℕ) (d : Decoded f w letters count after) →
+    (f : List ℕ) (w : Window) (letters : List ℕ) (count : ℕ) (after : List ℕ) (d : StringDecoded f w letters count after) →
     Wrote f w letters (length (d .before)) count after
 own-call f w letters count after d = counted _ _ _ (d .before) count after (d .call)
 
 pub call-from-C :
-    (f : List ℕ) (w : Window) (letters : List ℕ) (count : ℕ) (after : List ℕ) (d : DecodedFromC f w letters count after) →
+    (f : List ℕ) (w : Window) (letters : List ℕ) (count : ℕ) (after : List ℕ) (d : StringDecodedFromC f w letters count after) →
     Wrote f w letters (length (d .before)) (fieldAt (d .result′) 0) after
 call-from-C f w letters count after d =
     counted-from-C (λ others. stringRefusalIn f w letters (length (d .before)) others) (places (length letters) w) (ByteAt f letters w)
     (d .before) after (string-others f w letters (length (d .before))) (λ z. omega (arith, d .few)) (d .call)
 
-pub decoded : (f : List ℕ) (w : Window) → RightCalls f w (Decoded f w)
+pub decoded : (f : List ℕ) (w : Window) → RightCalls f w (StringDecoded f w)
 decoded f w letters count after d =
     let c = own-call f w letters count after d in
     record { all = c .count; each = c .each }
 
-pub decoded-from-C : (f : List ℕ) (w : Window) → RightCalls f w (DecodedFromC f w)
+pub decoded-from-C : (f : List ℕ) (w : Window) → RightCalls f w (StringDecodedFromC f w)
 decoded-from-C f w letters count after d =
     let c = call-from-C f w letters count after d in
     rw (d .read) (record { all = c .count; each = c .each })
@@ -57,7 +57,7 @@ decoded-from-C f w letters count after d =
 
 pub host-decodes :
     (f : List ℕ) (w : Window) (letters : List ℕ) (count : ℕ) (after : List ℕ) → FieldHolds (length letters) →
-    Decoded f w letters count after → DecodedFromC f w letters count after
+    StringDecoded f w letters count after → StringDecodedFromC f w letters count after
 host-decodes f w letters count after few d =
     let c = own-call f w letters count after d in
     record {

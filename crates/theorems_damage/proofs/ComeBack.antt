@@ -27,7 +27,8 @@ use Rattle.theorems.specs.RoundTrip.{Coded, windowRead}
 use Rattle.theorems.proofs.RoundTrip.{not-refused, wrote}
 use Rattle.theorems.proofs.HostReads.{first-read, window-found}
 use Rattle.theorems_damage.specs.Change.{Change, sent, received, KeptFrom}
-use Rattle.theorems_damage.specs.Damage.{Calls, Decoded, DecodedFromC, WentIn, Back, DamagedComeBack, DamagedComeBackFromC}
+use Rattle.theorems_damage.specs.Damage.{Calls, StringDecoded, StringDecodedFromC, WentIn, DamagedBack}
+use Rattle.theorems_damage.specs.Damage.{DamagedComeBack, DamagedComeBackFromC}
 use Rattle.theorems_damage.proofs.Changes.{same-part}
 use Rattle.theorems_damage.proofs.Bytes.{RightCalls, decoded, decoded-from-C}
 use Rattle.theorems_damage.proofs.Travel.{moved, altered-kept, unsettled-kept, settled-window}
@@ -50,7 +51,7 @@ module _ (f : List ℕ) (w : Window) (D : Calls) (right : RightCalls f w D) (s :
             (moved f w (sent cs) (received cs) k k′ (getD after k′ 0) (h .same) (r .each k′ l)) letter,
       )
 
-  comes-back : Back w D xs (outs (machineOf f) s xs)
+  comes-back : DamagedBack w D xs (outs (machineOf f) s xs)
   comes-back = record {
     altered = λ cs e places k ahead keeps. went-in cs e k k ahead (altered-kept w cs places k keeps);
     lost-or-added = λ front rest e places j keeps.
@@ -71,7 +72,7 @@ reported-works o f p before w after q =
 pub damaged-come-back : DamagedComeBack
 damaged-come-back f s xs coded before₁ r₁ after₁ room ran o p before₂ w after₂ q =
     rw (wrote f s xs coded before₁ after₁ r₁ room ran)
-    (comes-back f w (Decoded f w) (decoded f w) s xs coded (reported-works o f p before₂ w after₂ q))
+    (comes-back f w (StringDecoded f w) (decoded f w) s xs coded (reported-works o f p before₂ w after₂ q))
 
 pub damaged-come-back-from-C : DamagedComeBackFromC
 damaged-come-back-from-C f s xs coded small before₁ result₁ r₁ after₁ result₁′ room long ran p before₂ result₂ after₂ result₂′ found
@@ -82,4 +83,4 @@ damaged-come-back-from-C f s xs coded small before₁ result₁ r₁ after₁ re
     let sent = first-read result₁ (laidRun (u .own)) (length xs) _ (ap laidRun ended) small (u .out) .1 in
     let q = window-found f (coded .file) p before₂ result₂ after₂ result₂′ found is-window in
     rw (sent, wrote f s xs coded before₁ after₁ (u .own) room (u .promised))
-    (comes-back f w (DecodedFromC f w) (decoded-from-C f w) s xs coded (reported-works defaultOrder f p before₂ w after₂ q))
+    (comes-back f w (StringDecodedFromC f w) (decoded-from-C f w) s xs coded (reported-works defaultOrder f p before₂ w after₂ q))

@@ -32,15 +32,15 @@ use Rattle.theorems.specs.Starred as starred
 use Rattle.theorems.proofs.Starred.{test, claim-holds}
 use Rattle.theorems.proofs.Tests.{sameList, same-list}
 use Rattle.theorems_damage.specs.Change.{sent, received}
-use Rattle.theorems_damage.specs.Damage.{Decoded}
-use Rattle.theorems_damage.specs.Examples.{Example, Holds, AllHold, examples}
+use Rattle.theorems_damage.specs.Damage.{StringDecoded}
+use Rattle.theorems_damage.specs.Examples.{Example, Holds, EachHolds, examples}
 use Rattle.theorems_damage.proofs.Bytes.{host-decodes}
 
 -- ---- the test of an example
 
 string-decoded :
     (f : List ℕ) (w : Window) (letters bytes : List ℕ) → fileRefusal f ≡ 0 →
-    test f (starred.string (w .before) (w .after) (w .settle) letters bytes) ≡ true → Decoded f w letters (length bytes) bytes
+    test f (starred.string (w .before) (w .after) (w .settle) letters bytes) ≡ true → StringDecoded f w letters (length bytes) bytes
 string-decoded f w letters bytes z e =
     let h = claim-holds f z (starred.string (w .before) (w .after) (w .settle) letters bytes) e in
     let x = string-exists f w letters bytes true in
@@ -68,7 +68,7 @@ exampleTest e =
 module _ (e : Example) where
   string-holds :
       (letters bytes : List ℕ) → fileRefusal (e .file) ≡ 0 → stringTest e letters bytes ≡ true →
-      Decoded (e .file) (e .window) letters (length bytes) bytes × FieldHolds (length letters)
+      StringDecoded (e .file) (e .window) letters (length bytes) bytes × FieldHolds (length letters)
   string-holds letters bytes z t =
       let w = e .window in
       let u =
@@ -109,7 +109,7 @@ abbrev examplesTest : List Example → Bool
 examplesTest [] = true
 examplesTest (e ∷ es) = exampleTest e && examplesTest es
 
-all-hold : (es : List Example) → examplesTest es ≡ true → AllHold es
+all-hold : (es : List Example) → examplesTest es ≡ true → EachHolds es
 all-hold [] t = tt
 all-hold (e ∷ es) t = let u = both-true (exampleTest e) (examplesTest es) t in (example-holds e (u .0), all-hold es (u .1))
 
@@ -119,5 +119,5 @@ unfolding test entriesWord imageWord farWord inStepsWord startsWord stringRefusa
     add contribution gather unionOf answerOf leadingZeros hasKey isEntry over
 passed = refl
 
-pub examples-hold : AllHold examples
+pub examples-hold : EachHolds examples
 examples-hold = all-hold examples passed

@@ -10,7 +10,7 @@ use Rattle.values.specs.declared.Window.{Window}
 use Rattle.decoder.specs.Window.{windowSetting}
 use Rattle.decoder.specs.Places.{ByteAt}
 use Rattle.theorems_damage.specs.Change.{Change, sentOf, receivedOf, sent, received, Kept, InPlace, Each, KeptFrom}
-use Rattle.theorems_damage.specs.Damage.{Calls, Decoded, DecodedFromC, WindowKept, SettledKept, Shifted, Same, Undamaged}
+use Rattle.theorems_damage.specs.Damage.{Calls, StringDecoded, StringDecodedFromC, WindowKept, SettledKept, Shifted, Same, Undamaged}
 use Rattle.theorems_damage.specs.Damage.{DamageDoesNotTravel}
 use Rattle.theorems_damage.proofs.Changes.{length-string, in-place, each-map, length-sent, length-received}
 use Rattle.theorems_damage.proofs.Changes.{SamePart, same-part, kept-behind, kept-ahead, each-at, unaltered-at}
@@ -93,8 +93,8 @@ undamaged f w D right = record {
 
 pub damage-does-not-travel : DamageDoesNotTravel
 damage-does-not-travel = record {
-  own = λ f w. undamaged f w (Decoded f w) (decoded f w);
-  from-C = λ f w. undamaged f w (DecodedFromC f w) (decoded-from-C f w);
+  own = λ f w. undamaged f w (StringDecoded f w) (decoded f w);
+  from-C = λ f w. undamaged f w (StringDecodedFromC f w) (decoded-from-C f w);
   accepted = λ f w cs count after d below before′ r′ after′ room.
       not-refused f w cs (length (d .before)) (own-call f w (sent cs) count after d .accepted) below before′ room r′ after′;
   accepted-from-C = λ f w cs count after d below before′ result result′ r′ after′ room.

@@ -1,6 +1,6 @@
 -- Damage does not travel (document 02, 10/13), over the promise of the string decoder, own and from C. Byte k is that of the window whose
--- first letter is at place k; its present letter is at place k + b. Proved by
--- `damage-does-not-travel` and `damaged-come-back`.
+-- first letter is at place k; its present letter is at place k + b. Proved by `damage-does-not-travel`, `damaged-come-back` and
+-- `damaged-come-back-from-C`.
 use Prim.Native.Nat.{ℕ, _+_, _≤_, _<_}
 use mathlib.Core.Path.{_≡_}
 use mathlib.Core.List.{List, _++_}
@@ -28,12 +28,12 @@ use Rattle.theorems_damage.specs.Change.{Change, sent, received, Kept, I
 -- ---- a call that is not refused
 
 -- The string decoder, given a file, a window with its settle count, and these letters, returned this count and left these bytes.
-pub record Decoded (f : List ℕ) (w : Window) (letters : List ℕ) (count : ℕ) (after : List ℕ) : Type 0 where
+pub record StringDecoded (f : List ℕ) (w : Window) (letters : List ℕ) (count : ℕ) (after : List ℕ) : Type 0 where
   pub before : List ℕ
   pub call : StringPromise f w letters before (Done count) after
 
 -- The same from C: it returned 0, and the host reads the count from field 0.
-pub record DecodedFromC (f : List ℕ) (w : Window) (letters : List ℕ) (count : ℕ) (after : List ℕ) : Type 0 where
+pub record StringDecodedFromC (f : List ℕ) (w : Window) (letters : List ℕ) (count : ℕ) (after : List ℕ) : Type 0 where
   pub before : List ℕ
   pub result : List ℕ
   pub result′ : List ℕ
@@ -86,8 +86,8 @@ pub record Undamaged (w : Window) (D : Calls) : Type 0 where
   -- nor do losses and additions behind it: wherever its letters were kept, one after the other.
   pub anywhere : (cs : List Change) (k k′ : ℕ) → KeptFrom cs (size w) k k′ → Same D cs k k′
   -- A splice: the changes `cut`, whatever they are, lie between letters that were kept. Every window that ends ahead of them and every
-  -- window that begins behind them decodes as before; so in the damaged string at most as many bytes differ as `cut` has letters received,
-  -- and b + a more.
+  -- window that begins behind them decodes as before. The others in the damaged string are as many as `cut` has letters received, and
+  -- b + a more.
   pub ahead :
       (front cut rest : List Change) → Each Kept front → (k : ℕ) → k + size w ≤ length front → Same D (front ++ (cut ++ rest)) k k
   pub behind :
@@ -96,17 +96,17 @@ pub record Undamaged (w : Window) (D : Calls) : Type 0 where
 
 -- First sentence: for every file and window, the settle count among its three numbers. Of any string, so of a coded one.
 pub record DamageDoesNotTravel : Type 0 where
-  pub own : (f : List ℕ) (w : Window) → Undamaged w (Decoded f w)
-  pub from-C : (f : List ℕ) (w : Window) → Undamaged w (DecodedFromC f w)
+  pub own : (f : List ℕ) (w : Window) → Undamaged w (StringDecoded f w)
+  pub from-C : (f : List ℕ) (w : Window) → Undamaged w (StringDecodedFromC f w)
   -- "below O": where the undamaged string is not refused and every letter altered to or added is below O, no call with room for its bytes
   -- refuses the damaged one
   pub accepted :
-      (f : List ℕ) (w : Window) (cs : List Change) (count : ℕ) (after : List ℕ) → Decoded f w (sent cs) count after →
+      (f : List ℕ) (w : Window) (cs : List Change) (count : ℕ) (after : List ℕ) → StringDecoded f w (sent cs) count after →
       Each (NewBelow (outputsOf f)) cs → (before′ : List ℕ) (r′ : CountResult) (after′ : List ℕ) →
       places (length (received cs)) w ≤ length before′ → StringPromise f w (received cs) before′ r′ after′ →
       r′ ≡ Done (places (length (received cs)) w)
   pub accepted-from-C :
-      (f : List ℕ) (w : Window) (cs : List Change) (count : ℕ) (after : List ℕ) → DecodedFromC f w (sent cs) count after →
+      (f : List ℕ) (w : Window) (cs : List Change) (count : ℕ) (after : List ℕ) → StringDecodedFromC f w (sent cs) count after →
       Each (NewBelow (outputsOf f)) cs → (before′ result result′ : List ℕ) (r′ : ℕ) (after′ : List ℕ) →
       places (length (received cs)) w ≤ length before′ → resultBytes ≤ length result →
       StringFromHost f w (received cs) before′ result r′ after′ result′ → r′ ≡ 0
@@ -124,7 +124,7 @@ WentIn D w xs cs k k′ =
 
 -- Of a string coded from xs, at the places named above that have as many letters sent ahead of the window as its settle count says; those
 -- letters may be damaged.
-pub record Back (w : Window) (D : Calls) (xs coded : List ℕ) : Type 0 where
+pub record DamagedBack (w : Window) (D : Calls) (xs coded : List ℕ) : Type 0 where
   pub altered :
       (cs : List Change) → sent cs ≡ coded → Each InPlace cs → (k : ℕ) → w .settle ≤ k → WindowKept cs w k → WentIn D w xs cs k k
   pub lost-or-added :
@@ -140,7 +140,7 @@ DamagedComeBack =
     (f : List ℕ) (s : ℕ) (xs : List ℕ) → Coded f s xs →
     (before₁ : List ℕ) (r₁ : RunResult) (after₁ : List ℕ) → length xs ≤ length before₁ → RunPromise f s xs before₁ r₁ after₁ →
     (o : Order) (p : ℕ) (before₂ : List ℕ) (w : Window) (after₂ : List ℕ) → SearchPromise o f p before₂ (Found (Least w)) after₂ →
-    Back w (Decoded f w) xs (take (length xs) after₁)
+    DamagedBack w (StringDecoded f w) xs (take (length xs) after₁)
 
 -- The same from C, with the window and the number of letters sent as the host reads them.
 abbrev pub DamagedComeBackFromC : Type 0
@@ -149,4 +149,4 @@ DamagedComeBackFromC =
     (before₁ result₁ : List ℕ) (r₁ : ℕ) (after₁ result₁′ : List ℕ) → length xs ≤ length before₁ → resultBytes ≤ length result₁ →
     RunFromHost f s xs before₁ result₁ r₁ after₁ result₁′ →
     (p : ℕ) (before₂ result₂ after₂ result₂′ : List ℕ) → SearchFromHost f p before₂ result₂ 0 after₂ result₂′ → fieldAt result₂′ 0 ≡ 0 →
-    Back (windowRead result₂′ p) (DecodedFromC f (windowRead result₂′ p)) xs (take (fieldAt result₁′ 0) after₁)
+    DamagedBack (windowRead result₂′ p) (StringDecodedFromC f (windowRead result₂′ p)) xs (take (fieldAt result₁′ 0) after₁)

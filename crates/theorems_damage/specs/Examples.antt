@@ -9,7 +9,7 @@ use Rattle.coder.specs.File.{machineOf}
 use Rattle.values.specs.Window.{window}
 use Rattle.values.specs.declared.Window.{Window}
 use Rattle.theorems_damage.specs.Change.{Change, kept, altered, lost, added, sent, received}
-use Rattle.theorems_damage.specs.Damage.{Calls, Decoded, DecodedFromC}
+use Rattle.theorems_damage.specs.Damage.{Calls, StringDecoded, StringDecodedFromC}
 
 pub record Example : Type 0 where
   pub file : List ℕ
@@ -22,7 +22,7 @@ pub record Example : Type 0 where
   pub bytes′ : List ℕ
 
 -- the calls on both strings, which are not refused
-pub record Bytes (D : Calls) (e : Example) : Type 0 where
+pub record BothStrings (D : Calls) (e : Example) : Type 0 where
   pub undamaged : D (e .sends) (length (e .bytes)) (e .bytes)
   pub damaged : D (e .arrives) (length (e .bytes′)) (e .bytes′)
 
@@ -30,12 +30,12 @@ pub record Holds (e : Example) : Type 0 where
   pub coded : outs (machineOf (e .file)) 0 (e .inputs) ≡ e .sends
   pub sent-are : sent (e .changes) ≡ e .sends
   pub received-are : received (e .changes) ≡ e .arrives
-  pub own : Bytes (Decoded (e .file) (e .window)) e
-  pub from-C : Bytes (DecodedFromC (e .file) (e .window)) e
+  pub own : BothStrings (StringDecoded (e .file) (e .window)) e
+  pub from-C : BothStrings (StringDecodedFromC (e .file) (e .window)) e
 
-abbrev pub AllHold : List Example → Type 0
-AllHold [] = Unit {0}
-AllHold (e ∷ es) = Holds e × AllHold es
+abbrev pub EachHolds : List Example → Type 0
+EachHolds [] = Unit {0}
+EachHolds (e ∷ es) = Holds e × EachHolds es
 
 -- Coder A with a window of one letter before and settle count 1: a letter is lost, two are added, and the first letter after them is
 -- altered.
