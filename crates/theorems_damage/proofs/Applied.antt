@@ -98,14 +98,14 @@ noticed-behind =
     applied noticed (examples-hold .1 .1 .0) 3 3
     (travels-not noticed .altered (noticed .changes) (tt, (tt, (tt, (tt, (tt, (tt, tt)))))) 3 (kept-from (noticed .changes) 3 3 refl))
 
--- Damaged in all four ways, coder G.
+-- Damaged in all four ways, coder G: the settle count's letter is the first behind the altered one.
 pub settled-same : SameByte 7 8 (settled .bytes) (settled .bytes′) 5 6
 unfolding allBelow
 settled-same =
-    let rest = drop 5 (settled .changes) in
+    let rest = drop 6 (settled .changes) in
     applied settled (examples-hold .1 .1 .1 .0) 5 6
-    (travels-not settled .lost-or-added (take 5 (settled .changes)) rest (tt, (tt, (tt, (tt, (tt, tt))))) 2
-    (record { inside = lit≤ tt; kept = λ i l m. kept-from rest 1 3 refl i (omega arith) (omega arith) }))
+    (travels-not settled .lost-or-added (take 6 (settled .changes)) rest (tt, (tt, (tt, (tt, tt)))) 1
+    (record { inside = lit≤ tt; kept = λ i l m. kept-from rest 0 3 refl i (omega arith) (omega arith) }))
 
 -- Its call is not refused: each letter altered to or added is below O.
 pub settled-accepted :
