@@ -207,6 +207,28 @@ void text_writer_refused(const size_t counts[3], const uint8_t *entries, size_t 
     put_buffer(lent, NULL, 0);
 }
 
+static void put_string(const arguments *a)
+{
+    put("string %zu %zu %zu on", a->before, a->after, a->settle);
+    put_list(a->bytes, a->bytes_len);
+    put(" into %zu = ", a->lent_len);
+    count_case();
+}
+
+void text_string(const arguments *a, const uint8_t *bytes, size_t count)
+{
+    put_string(a);
+    put("count %zu", count);
+    put_buffer(a->lent_len, bytes, count);
+}
+
+void text_string_refused(const arguments *a, size_t number)
+{
+    put_string(a);
+    put("refused %zu", number);
+    put_buffer(a->lent_len, NULL, 0);
+}
+
 /* ---- calls that are lent no buffer ---- */
 
 static void put_call_on(const arguments *a)

@@ -1,6 +1,6 @@
 /* Texts of cases for the program cases: calls that a host in C does not have, searches in a named
-   order and the reader, and the library's own writer, single window and calls for kinds, with what
-   each is to give. crates/cases/stdin says how a case is written. */
+   order and the reader, and the library's own writer, single window, string and calls for kinds, with
+   what each is to give. crates/cases/stdin says how a case is written. */
 #ifndef CASE_TEXTS_H
 #define CASE_TEXTS_H
 
@@ -37,6 +37,11 @@ void text_writer_refused(const size_t counts[3], const uint8_t *entries, size_t 
 /* The single window, the search or the window of kinds with these arguments, all but the result: what
    the enumerator says. */
 void text_call(const arguments *a);
+
+/* The string with these arguments, all but the result, lent its buffer: these bytes; or refused with
+   this number. */
+void text_string(const arguments *a, const uint8_t *bytes, size_t count);
+void text_string_refused(const arguments *a, size_t number);
 
 /* Ends the last text and writes the list; nothing is written after it. */
 void close_texts(void);

@@ -23,6 +23,7 @@ void group_settle(void);
 void group_unused(void);
 void group_kinds(void);
 void group_how_far(void);
+void group_damaged_strings(void);
 void group_orders(void);
 
 #endif

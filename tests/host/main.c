@@ -18,7 +18,8 @@
    the settle counts; cases of the reader and of the writer for the examples and for random coders
    (group_writer.c), and for files with output letters that no entry names (group_unused.c); cases of
    the calls for kinds at the edges, for small coders and for random ones (group_kinds.c); cases of the
-   single window for the examples, lines, small coders and random ones (group_how_far.c). */
+   single window for the examples, lines, small coders and random ones (group_how_far.c); cases of
+   strings for the same (group_damaged_strings.c). */
 #include "case_texts.h"
 #include "coders.h"
 #include "compare.h"
@@ -66,6 +67,7 @@ int main(int count, char **words)
     group_unused();
     group_kinds();
     group_how_far();
+    group_damaged_strings();
     group_orders();
     return end_groups();
 }
