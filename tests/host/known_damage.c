@@ -8,10 +8,10 @@
 #include <string.h>
 
 /* The string that was sent and the one that is received, letter below letter: a - above stands for a
-   letter added, a - below for one lost. The bytes of both, ! for none and ? for several. Below the bytes of the received
-   string, which byte of the sent one each has to be, where its window was kept. Of the others, whether
-   it is the byte that its letter had in the sent string, = or x; - where the letter had none. How many of
-   the kept ones the sentence for such damage names. All runs start in state 0. */
+   letter added, a - below for one lost. The bytes of both, ! for none and ? for several. Below the bytes
+   of the received string, which byte of the sent one each has to be, where its window was kept. Of the
+   others, whether it is the byte that its letter had in the sent string, = or x; - where the letter had
+   none. How many of the kept ones the sentence for such damage names. All runs start in state 0. */
 typedef struct row {
     size_t settle;
     const char *input, *sent, *received, *sent_bytes, *bytes, *signs;

@@ -13,7 +13,7 @@ use Rattle.theorems_damage.specs.Change.{Kept, InPlace, NewBelow, Each, 
 -- ---- strings by parts, sent and received alike
 
 module _ (of : Change → List ℕ) where
-  pub string-append : (cs ds : List Change) → stringOf of (cs ++ ds) ≡ stringOf of cs ++ stringOf of ds
+  string-append : (cs ds : List Change) → stringOf of (cs ++ ds) ≡ stringOf of cs ++ stringOf of ds
   string-append [] ds = refl
   string-append (c ∷ cs) ds = rw (string-append cs ds) (sym (append-assoc (of c) (stringOf of cs) (stringOf of ds)))
 
