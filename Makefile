@@ -9,7 +9,7 @@
 #:   install              library, header, program, manual page and pkg-config file below PREFIX, /usr/local if none is given: the same
 #:   uninstall            removes these files; nothing is built for it
 #:   check                proves every crate and runs every test, but tries no must-fail edit: 5 minutes from nothing, else about 2
-#:   test                 the gate: removes target/, proves every crate, tries every must-fail edit, runs every test: about 20 minutes
+#:   test                 the gate: removes target/, proves every crate, tries every must-fail edit, runs every test: about 23 minutes
 #:   bench                the library and its times beside plain C: 25 seconds more than lib
 #:   target/lowhenita.pc  the pkg-config file; nothing is built for it
 #:   clean                removes target/: all that is built, and what is known of proved crates
