@@ -13,7 +13,7 @@ use Rattle.values.specs.declared.CountResult.{CountResult}
 use Rattle.values.specs.declared.CountResult.the-variants.{Done}
 use Rattle.decoder.specs.Places.{StringPromise}
 use Rattle.theorems_damage.specs.Change.{Change, kept, altered, lost, added, KeptAt}
-use Rattle.theorems_damage.specs.Damage.{StringDecoded, SameByte, Same, Undamaged}
+use Rattle.theorems_damage.specs.Damage.{StringDecoded, SameByte, AsUndamaged, Undamaged}
 use Rattle.theorems_damage.specs.Examples.{Example, Holds, spliced, delayed, noticed, settled}
 use Rattle.theorems_damage.proofs.Examples.{examples-hold}
 use Rattle.theorems_damage.proofs.Travel.{damage-does-not-travel}
@@ -46,7 +46,7 @@ kept-from cs j n e i l m =
 
 -- two calls of an example, where a law says what becomes of them
 applied :
-    (e : Example) → Holds e → (k k′ : ℕ) → Same (StringDecoded (e .file) (e .window)) (e .changes) k k′ →
+    (e : Example) → Holds e → (k k′ : ℕ) → AsUndamaged (StringDecoded (e .file) (e .window)) (e .changes) k k′ →
     SameByte (length (e .bytes)) (length (e .bytes′)) (e .bytes) (e .bytes′) k k′
 applied e h k k′ same =
     same _ _ _ _ (rw (h .sent-are) (h .own .undamaged)) (rw (h .received-are) (h .own .damaged))

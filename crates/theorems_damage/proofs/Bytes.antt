@@ -18,27 +18,27 @@ use Rattle.theorems.specs.RoundTrip.{FieldHolds}
 use Rattle.theorems.proofs.Counted.{Counted, counted, counted-from-C}
 use Rattle.theorems_damage.specs.Damage.{Calls, StringDecoded, StringDecodedFromC}
 
-pub record Right (f : List ℕ) (w : Window) (letters : List ℕ) (count : ℕ) (after : List ℕ) : Type 0 where
+pub record DecodedRight (f : List ℕ) (w : Window) (letters : List ℕ) (count : ℕ) (after : List ℕ) : Type 0 where
   pub all : count ≡ places (length letters) w
   pub each : (k : ℕ) → k < count → ByteAt f letters w k (getD after k 0)
 
 -- what is known of calls: those that were not refused decoded rightly
 abbrev pub RightCalls : List ℕ → Window → Calls → Type 0
-RightCalls f w D = (letters : List ℕ) (count : ℕ) (after : List ℕ) → D letters count after → Right f w letters count after
+RightCalls f w D = (letters : List ℕ) (count : ℕ) (after : List ℕ) → D letters count after → DecodedRight f w letters count after
 
 -- it was not refused, and wrote what it is to write
-abbrev Wrote : List ℕ → Window → List ℕ → ℕ → ℕ → List ℕ → Type 0
-Wrote f w letters room count after =
+abbrev StringWrote : List ℕ → Window → List ℕ → ℕ → ℕ → List ℕ → Type 0
+StringWrote f w letters room count after =
     Counted (stringRefusalIn f w letters room true) (places (length letters) w) (ByteAt f letters w) count after
 
 pub own-call :
     (f : List ℕ) (w : Window) (letters : List ℕ) (count : ℕ) (after : List ℕ) (d : StringDecoded f w letters count after) →
-    Wrote f w letters (length (d .before)) count after
+    StringWrote f w letters (length (d .before)) count after
 own-call f w letters count after d = counted _ _ _ (d .before) count after (d .call)
 
 pub call-from-C :
     (f : List ℕ) (w : Window) (letters : List ℕ) (count : ℕ) (after : List ℕ) (d : StringDecodedFromC f w letters count after) →
-    Wrote f w letters (length (d .before)) (fieldAt (d .result′) 0) after
+    StringWrote f w letters (length (d .before)) (fieldAt (d .result′) 0) after
 call-from-C f w letters count after d =
     counted-from-C (λ others. stringRefusalIn f w letters (length (d .before)) others) (places (length letters) w) (ByteAt f letters w)
     (d .before) after (string-others f w letters (length (d .before))) (λ z. omega (arith, d .few)) (d .call)

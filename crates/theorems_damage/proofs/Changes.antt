@@ -8,7 +8,7 @@ use lib.ListN.{length, take, drop, take-append-drop, length-append}
 use lib.Seq.{take-at, drop-at}
 use Rattle.mealy.specs.Machine.{Letters}
 use Rattle.theorems_damage.specs.Change.{Change, kept, altered, lost, added, sentOf, receivedOf, stringOf, sent, received}
-use Rattle.theorems_damage.specs.Change.{Kept, InPlace, NewBelow, Each, KeptAt, AlteredAt, KeptFrom}
+use Rattle.theorems_damage.specs.Change.{Keeps, InPlace, NewBelow, Each, KeptAt, AlteredAt, KeptFrom}
 
 -- ---- strings by parts, sent and received alike
 
@@ -53,7 +53,7 @@ each-front : (P : Change → Type 0) (cs ds : List Change) → Each P (cs ++ ds)
 each-front P [] ds e = tt
 each-front P (c ∷ cs) ds e = (e .0, each-front P cs ds (e .1))
 
-pub in-place : (c : Change) → Kept c → InPlace c
+pub in-place : (c : Change) → Keeps c → InPlace c
 in-place (kept x) k = tt
 in-place (altered x y) k = tt
 in-place (lost x) k = absurd k
@@ -81,13 +81,13 @@ length-received = length-each receivedOf InPlace received-one
 
 -- ---- letters that were kept
 
-kept-same : (c : Change) → Kept c → receivedOf c ≡ sentOf c
+kept-same : (c : Change) → Keeps c → receivedOf c ≡ sentOf c
 kept-same (kept x) k = refl
 kept-same (altered x y) k = absurd k
 kept-same (lost x) k = absurd k
 kept-same (added y) k = absurd k
 
-each-same : (cs : List Change) → Each Kept cs → received cs ≡ sent cs
+each-same : (cs : List Change) → Each Keeps cs → received cs ≡ sent cs
 each-same [] e = refl
 each-same (c ∷ cs) e = ap₂ _++_ (kept-same c (e .0)) (each-same cs (e .1))
 
@@ -101,7 +101,7 @@ pub same-part : (cs : List Change) (n k k′ : ℕ) → KeptFrom cs n k k′ →
 same-part cs n k k′ h = rw (h .parts) (of-parts (h .front) (h .part) (h .back) (h .kept) (h .letters) (h .place) (h .place′))
   where
     of-parts :
-        (front part back : List Change) → Each Kept part → length part ≡ n → length (sent front) ≡ k → length (received front) ≡ k′ →
+        (front part back : List Change) → Each Keeps part → length part ≡ n → length (sent front) ≡ k → length (received front) ≡ k′ →
         SamePart (front ++ (part ++ back)) n k k′
     of-parts front part back keeps letters place place′ =
         let long = length-sent part (each-map in-place part keeps) ∙ letters in
@@ -122,12 +122,12 @@ record Parted (cs : List Change) (j n : ℕ) : Type 0 where
   part : List Change
   back : List Change
   parts : cs ≡ front ++ (part ++ back)
-  kept : Each Kept part
+  kept : Each Keeps part
   letters : length part ≡ n
   place : length front ≡ j
 
 kept-taken :
-    (n : ℕ) (cs : List Change) → ((i : ℕ) → i < n → KeptAt cs i) → Each Kept (take n cs) × (length (take n cs) ≡ n)
+    (n : ℕ) (cs : List Change) → ((i : ℕ) → i < n → KeptAt cs i) → Each Keeps (take n cs) × (length (take n cs) ≡ n)
 kept-taken zero cs h = (tt, refl)
 kept-taken (suc n) [] h = absurd (h 0 (omega arith))
 kept-taken (suc n) (c ∷ cs) h =
@@ -194,7 +194,7 @@ kept-ahead front rest n k k′ h =
     }
 
 -- every letter that was kept
-pub each-at : (cs : List Change) → Each Kept cs → (i : ℕ) → i < length cs → KeptAt cs i
+pub each-at : (cs : List Change) → Each Keeps cs → (i : ℕ) → i < length cs → KeptAt cs i
 each-at [] e i l = absurd (omega arith)
 each-at (c ∷ cs) e zero l = e .0
 each-at (c ∷ cs) e (suc i) l = each-at cs (e .1) i (omega arith)

@@ -1,14 +1,13 @@
 -- The letters that went in come back from a damaged string, at the places whose windows are not damaged.
 use mathlib.Core.Path.{_≡_, ap, _∙_}
 use mathlib.Core.List.{List, _++_}
-use Prim.Native.Nat.{ℕ, _+_, _≤_, _<_}
+use Prim.Native.Nat.{ℕ, _+_, _≤_}
 use native.Mathlib.Omega.{arith}
-use lib.ListN.{length, getD, take, drop}
+use lib.ListN.{length, getD}
 use Rattle.mealy.specs.Machine.{outs}
 use Rattle.mealy.specs.Window.{Works}
 use Rattle.mealy.proofs.RunParts.{length-outs}
 use Rattle.coder.specs.File.{machineOf}
-use Rattle.fitting.proofs.Answers.{right-byte-unique}
 use Rattle.running.specs.Run.{RunWith}
 use Rattle.running_host.specs.Laid.{laidRun}
 use Rattle.values.specs.Window.{size}
@@ -20,18 +19,17 @@ use Rattle.search.specs.declared.Verdict.the-variants.{Least}
 use Rattle.search.specs.declared.SearchResult.the-variants.{Found}
 use Rattle.search.proofs.Determined.{found}
 use Rattle.decoder.specs.Window.{windowSetting}
-use Rattle.decoder.specs.Places.{ByteAt}
 use Rattle.decoder.proofs.ComeBack.{place-comes-back}
 use Rattle.layout.proofs.Hosting.{from-host}
 use Rattle.theorems.specs.RoundTrip.{Coded, windowRead}
 use Rattle.theorems.proofs.RoundTrip.{not-refused, wrote}
 use Rattle.theorems.proofs.HostReads.{first-read, window-found}
-use Rattle.theorems_damage.specs.Change.{Change, sent, received, KeptFrom}
+use Rattle.theorems_damage.specs.Change.{Change, sent, KeptFrom}
 use Rattle.theorems_damage.specs.Damage.{Calls, StringDecoded, StringDecodedFromC, WentIn, DamagedBack}
 use Rattle.theorems_damage.specs.Damage.{DamagedComeBack, DamagedComeBackFromC}
 use Rattle.theorems_damage.proofs.Changes.{same-part}
 use Rattle.theorems_damage.proofs.Bytes.{RightCalls, decoded, decoded-from-C}
-use Rattle.theorems_damage.proofs.Travel.{moved, altered-kept, unsettled-kept, settled-window}
+use Rattle.theorems_damage.proofs.Travel.{received-byte, altered-kept, unsettled-kept, settled-window}
 
 -- of a coded string and a window that works, for all calls that decode rightly
 module _ (f : List ℕ) (w : Window) (D : Calls) (right : RightCalls f w D) (s : ℕ) (xs : List ℕ) (coded : Coded f s xs)
@@ -39,17 +37,11 @@ module _ (f : List ℕ) (w : Window) (D : Calls) (right : RightCalls f w D) (s :
   went-in :
       (cs : List Change) → sent cs ≡ outs (machineOf f) s xs → (k k′ : ℕ) → w .settle ≤ k → KeptFrom cs (size w) k k′ →
       WentIn D w xs cs k k′
-  went-in cs e k k′ ahead keeps count after call =
+  went-in cs e k k′ ahead keeps =
       let h = same-part cs (size w) k k′ keeps in
-      let r = right (received cs) count after call in
-      let l : k′ < count = omega (arith, r .all, h .inside′) in
       let long : length (sent cs) ≡ length xs = ap length e ∙ length-outs (machineOf f) s xs in
-      let letter : ByteAt f (sent cs) w k (getD xs (k + w .before) 0) =
-      rw e (place-comes-back f w s xs works (coded .start) (coded .letters) k (omega (arith, h .inside)) ahead) in (
-        l,
-        right-byte-unique (windowSetting f w) (take (size w) (drop k (sent cs))) (w .before)
-            (moved f w (sent cs) (received cs) k k′ (getD after k′ 0) (h .same) (r .each k′ l)) letter,
-      )
+      received-byte f w D right cs k k′ h (getD xs (k + w .before) 0)
+      (rw e (place-comes-back f w s xs works (coded .start) (coded .letters) k (omega (arith, h .inside)) ahead))
 
   comes-back : DamagedBack w D xs (outs (machineOf f) s xs)
   comes-back = record {

@@ -9,34 +9,39 @@ use Rattle.values.specs.Window.{size}
 use Rattle.values.specs.declared.Window.{Window}
 use Rattle.decoder.specs.Window.{windowSetting}
 use Rattle.decoder.specs.Places.{ByteAt}
-use Rattle.theorems_damage.specs.Change.{Change, sentOf, receivedOf, sent, received, Kept, InPlace, Each, KeptFrom}
-use Rattle.theorems_damage.specs.Damage.{Calls, StringDecoded, StringDecodedFromC, WindowKept, SettledKept, Shifted, Same, Undamaged}
-use Rattle.theorems_damage.specs.Damage.{DamageDoesNotTravel}
+use Rattle.theorems_damage.specs.Change.{Change, sentOf, receivedOf, sent, received, Keeps, InPlace, Each, KeptFrom}
+use Rattle.theorems_damage.specs.Damage.{Calls, StringDecoded, StringDecodedFromC, WindowKept, SettledKept, Shifted}
+use Rattle.theorems_damage.specs.Damage.{AsUndamaged, Undamaged, DamageDoesNotTravel}
 use Rattle.theorems_damage.proofs.Changes.{length-string, in-place, each-map, length-sent, length-received}
 use Rattle.theorems_damage.proofs.Changes.{SamePart, same-part, kept-behind, kept-ahead, each-at, unaltered-at}
 use Rattle.theorems_damage.proofs.Bytes.{RightCalls, own-call, call-from-C, decoded, decoded-from-C}
 use Rattle.theorems_damage.proofs.NotRefused.{not-refused, not-refused-from-C}
 
 -- the right byte for the same letters at another place, and in another string
-pub moved :
+moved :
     (f : List ℕ) (w : Window) (letters letters′ : List ℕ) (k k′ v : ℕ) →
     take (size w) (drop k′ letters′) ≡ take (size w) (drop k letters) → ByteAt f letters′ w k′ v → ByteAt f letters w k v
 moved f w letters letters′ k k′ v e h = rw e at h
 
 module _ (f : List ℕ) (w : Window) (D : Calls) (right : RightCalls f w D) where
-  same-byte : (cs : List Change) (k k′ : ℕ) → SamePart cs (size w) k k′ → Same D cs k k′
+  -- the string received has at k′ the byte that is right at k for the string sent
+  pub received-byte :
+      (cs : List Change) (k k′ : ℕ) → SamePart cs (size w) k k′ → (v : ℕ) → ByteAt f (sent cs) w k v → (count : ℕ) (after : List ℕ) →
+      D (received cs) count after → (k′ < count) × (getD after k′ 0 ≡ v)
+  received-byte cs k k′ h v byte count after call =
+      let r = right (received cs) count after call in
+      let l : k′ < count = omega (arith, r .all, h .inside′) in (
+        l,
+        right-byte-unique (windowSetting f w) (take (size w) (drop k (sent cs))) (w .before)
+            (moved f w (sent cs) (received cs) k k′ (getD after k′ 0) (h .same) (r .each k′ l)) byte,
+      )
+
+  same-byte : (cs : List Change) (k k′ : ℕ) → SamePart cs (size w) k k′ → AsUndamaged D cs k k′
   same-byte cs k k′ h count count′ after after′ call call′ =
       let r = right (sent cs) count after call in
-      let r′ = right (received cs) count′ after′ call′ in
       let l : k < count = omega (arith, r .all, h .inside) in
-      let l′ : k′ < count′ = omega (arith, r′ .all, h .inside′) in
-      record {
-        written = omega arith;
-        written′ = omega arith;
-        same =
-            right-byte-unique (windowSetting f w) (take (size w) (drop k (sent cs))) (w .before)
-            (moved f w (sent cs) (received cs) k k′ (getD after′ k′ 0) (h .same) (r′ .each k′ l′)) (r .each k l);
-      }
+      let z = received-byte cs k k′ h (getD after k 0) (r .each k l) count′ after′ call′ in
+      record { written = omega arith; written′ = omega (arith, z .0); same = z .1 }
 
 -- ---- where the letters of a window were kept
 
@@ -55,16 +60,16 @@ module _ (w : Window) where
   pub settled-window : (cs : List Change) (j : ℕ) → SettledKept cs w j → WindowKept cs w j
   settled-window cs j keeps i l m = keeps .kept i (omega arith) m
 
-  each-window : (cs : List Change) → Each Kept cs → (k : ℕ) → k + size w ≤ length cs → WindowKept cs w k
+  each-window : (cs : List Change) → Each Keeps cs → (k : ℕ) → k + size w ≤ length cs → WindowKept cs w k
   each-window cs keeps k l i m n = each-at cs keeps i (omega arith)
 
   ahead-kept :
-      (front rest : List Change) → Each Kept front → (k : ℕ) → k + size w ≤ length front → KeptFrom (front ++ rest) (size w) k k
+      (front rest : List Change) → Each Keeps front → (k : ℕ) → k + size w ≤ length front → KeptFrom (front ++ rest) (size w) k k
   ahead-kept front rest keeps k l =
       kept-ahead front rest (size w) k k (altered-kept front (each-map in-place front keeps) k (each-window front keeps k l))
 
   behind-kept :
-      (front cut rest : List Change) → Each Kept front → Each Kept rest → (j : ℕ) → j + size w ≤ length rest →
+      (front cut rest : List Change) → Each Keeps front → Each Keeps rest → (j : ℕ) → j + size w ≤ length rest →
       KeptFrom (front ++ (cut ++ rest)) (size w) (length front + length (sent cut) + j) (length front + length (received cut) + j)
   behind-kept front cut rest keeps keeps′ j l =
       let places = each-map in-place front keeps in
@@ -85,10 +90,10 @@ undamaged f w D right = record {
   behind = λ front cut rest keeps keeps′ j l. at (front ++ (cut ++ rest)) _ _ (behind-kept w front cut rest keeps keeps′ j l);
 }
   where
-    at : (cs : List Change) (k k′ : ℕ) → KeptFrom cs (size w) k k′ → Same D cs k k′
+    at : (cs : List Change) (k k′ : ℕ) → KeptFrom cs (size w) k k′ → AsUndamaged D cs k k′
     at cs k k′ h = same-byte f w D right cs k k′ (same-part cs (size w) k k′ h)
 
-    after-last : (front rest : List Change) → Each InPlace rest → (j : ℕ) → WindowKept rest w j → Shifted (Same D) front rest j
+    after-last : (front rest : List Change) → Each InPlace rest → (j : ℕ) → WindowKept rest w j → Shifted (AsUndamaged D) front rest j
     after-last front rest places j keeps = at (front ++ rest) _ _ (unsettled-kept w front rest places j keeps)
 
 pub damage-does-not-travel : DamageDoesNotTravel
@@ -102,4 +107,10 @@ damage-does-not-travel = record {
       not-refused-from-C f w cs (length (d .before)) none below before′ room result result′ r′ after′;
   every-place = λ w cs places k l none i m n.
       unaltered-at cs places i (omega (arith, length-sent cs places)) (none i m n);
+  every-place-behind = λ w front rest places j inside l none.
+      let long = length-string sentOf front rest in
+      record {
+        inside = omega arith;
+        kept = λ i m n. unaltered-at rest places i (omega (arith, length-sent rest places)) (none i (omega arith) n);
+      };
 }

@@ -40,11 +40,11 @@ received cs = stringOf receivedOf cs
 -- ---- what the changes leave
 
 -- the letter is received as it was sent
-abbrev pub Kept : Change → Type 0
-Kept (kept x) = Unit {0}
-Kept (altered x y) = ⊥
-Kept (lost x) = ⊥
-Kept (added y) = ⊥
+abbrev pub Keeps : Change → Type 0
+Keeps (kept x) = Unit {0}
+Keeps (altered x y) = ⊥
+Keeps (lost x) = ⊥
+Keeps (added y) = ⊥
 
 -- a letter was sent and one is received for it: neither a loss nor an addition
 abbrev pub InPlace : Change → Type 0
@@ -68,7 +68,7 @@ Each P (c ∷ cs) = P c × Each P cs
 -- there is a change i, and it keeps its letter
 abbrev pub KeptAt : List Change → ℕ → Type 0
 KeptAt [] i = ⊥
-KeptAt (c ∷ cs) zero = Kept c
+KeptAt (c ∷ cs) zero = Keeps c
 KeptAt (c ∷ cs) (suc i) = KeptAt cs i
 
 -- there is a change i, and it alters its letter
@@ -86,7 +86,7 @@ pub record KeptFrom (cs : List Change) (n k k′ : ℕ) : Type 0 where
   pub part : List Change
   pub back : List Change
   pub parts : cs ≡ front ++ (part ++ back)
-  pub kept : Each Kept part
+  pub kept : Each Keeps part
   pub letters : length part ≡ n
   pub place : length (sent front) ≡ k
   pub place′ : length (received front) ≡ k′

@@ -23,7 +23,7 @@ use Rattle.decoder.specs.Places.{StringPromise}
 use Rattle.decoder_host.specs.Laid.{StringFromHost}
 use Rattle.layout.specs.Layout.{resultBytes, fieldAt}
 use Rattle.theorems.specs.RoundTrip.{Coded, FieldHolds, windowRead}
-use Rattle.theorems_damage.specs.Change.{Change, sent, received, Kept, InPlace, NewBelow, Each, KeptAt, AlteredAt, KeptFrom}
+use Rattle.theorems_damage.specs.Change.{Change, sent, received, Keeps, InPlace, NewBelow, Each, KeptAt, AlteredAt, KeptFrom}
 
 -- ---- a call that is not refused
 
@@ -69,30 +69,30 @@ pub record SameByte (count count′ : ℕ) (after after′ : List ℕ) (k k′ :
   pub same : getD after′ k′ 0 ≡ getD after k 0
 
 -- whatever two calls that are not refused left
-abbrev pub Same : Calls → List Change → ℕ → ℕ → Type 0
-Same D cs k k′ =
+abbrev pub AsUndamaged : Calls → List Change → ℕ → ℕ → Type 0
+AsUndamaged D cs k k′ =
     (count count′ : ℕ) (after after′ : List ℕ) → D (sent cs) count after → D (received cs) count′ after′ →
     SameByte count count′ after after′ k k′
 
 pub record Undamaged (w : Window) (D : Calls) : Type 0 where
   -- Second sentence: letters were altered, and none lost or added. Every place whose window holds none of them decodes as before.
-  pub altered : (cs : List Change) → Each InPlace cs → (k : ℕ) → WindowKept cs w k → Same D cs k k
+  pub altered : (cs : List Change) → Each InPlace cs → (k : ℕ) → WindowKept cs w k → AsUndamaged D cs k k
   -- Third sentence: the last loss or addition comes before the changes `rest`. Every place whose window, and settle count ahead of it, lie
   -- unaltered in `rest` decodes as before, at its shifted index.
   pub lost-or-added :
-      (front rest : List Change) → Each InPlace rest → (j : ℕ) → SettledKept rest w j → Shifted (Same D) front rest j
+      (front rest : List Change) → Each InPlace rest → (j : ℕ) → SettledKept rest w j → Shifted (AsUndamaged D) front rest j
   -- Stronger: the letters ahead of the window do not count,
-  pub unsettled : (front rest : List Change) → Each InPlace rest → (j : ℕ) → WindowKept rest w j → Shifted (Same D) front rest j
+  pub unsettled : (front rest : List Change) → Each InPlace rest → (j : ℕ) → WindowKept rest w j → Shifted (AsUndamaged D) front rest j
   -- nor do losses and additions behind it: wherever its letters were kept, one after the other.
-  pub anywhere : (cs : List Change) (k k′ : ℕ) → KeptFrom cs (size w) k k′ → Same D cs k k′
+  pub anywhere : (cs : List Change) (k k′ : ℕ) → KeptFrom cs (size w) k k′ → AsUndamaged D cs k k′
   -- A splice: the changes `cut`, whatever they are, lie between letters that were kept. Every window that ends ahead of them and every
   -- window that begins behind them decodes as before. The others in the damaged string are as many as `cut` has letters received, and
   -- b + a more.
   pub ahead :
-      (front cut rest : List Change) → Each Kept front → (k : ℕ) → k + size w ≤ length front → Same D (front ++ (cut ++ rest)) k k
+      (front cut rest : List Change) → Each Keeps front → (k : ℕ) → k + size w ≤ length front → AsUndamaged D (front ++ (cut ++ rest)) k k
   pub behind :
-      (front cut rest : List Change) → Each Kept front → Each Kept rest → (j : ℕ) → j + size w ≤ length rest →
-      Same D (front ++ (cut ++ rest)) (length front + length (sent cut) + j) (length front + length (received cut) + j)
+      (front cut rest : List Change) → Each Keeps front → Each Keeps rest → (j : ℕ) → j + size w ≤ length rest →
+      AsUndamaged D (front ++ (cut ++ rest)) (length front + length (sent cut) + j) (length front + length (received cut) + j)
 
 -- First sentence: for every file and window, the settle count among its three numbers. Of any string, so of a coded one.
 pub record DamageDoesNotTravel : Type 0 where
@@ -110,10 +110,15 @@ pub record DamageDoesNotTravel : Type 0 where
       Each (NewBelow (outputsOf f)) cs → (before′ result result′ : List ℕ) (r′ : ℕ) (after′ : List ℕ) →
       places (length (received cs)) w ≤ length before′ → resultBytes ≤ length result →
       StringFromHost f w (received cs) before′ result r′ after′ result′ → r′ ≡ 0
-  -- A window that lies in the string and holds no altered letter is kept: the second sentence leaves no place out.
+  -- The sentences leave no place out: of the string sent, every place with a full window in which no letter was altered; and every place
+  -- behind the last loss or addition with a full window in which none was altered, nor in as many letters ahead as the settle count says.
   pub every-place :
       (w : Window) (cs : List Change) → Each InPlace cs → (k : ℕ) → k < places (length (sent cs)) w →
       ((i : ℕ) → k ≤ i → i < k + size w → AlteredAt cs i → ⊥) → WindowKept cs w k
+  pub every-place-behind :
+      (w : Window) (front rest : List Change) → Each InPlace rest → (j : ℕ) → w .settle ≤ j →
+      length (sent front) + j < places (length (sent (front ++ rest))) w →
+      ((i : ℕ) → j ≤ i + w .settle → i < j + size w → AlteredAt rest i → ⊥) → SettledKept rest w j
 
 -- ---- with the round trip: the letters are those that went in
 
