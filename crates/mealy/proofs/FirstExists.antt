@@ -98,7 +98,7 @@ module _ (S : Setting) (decide_start : (s : ℕ) → Dec (S.Start s)) (bounded :
                 λ same.
                     let d : n ≡ letters r = omega (arith, l.holds.1) in
                     subst (λ zs. Lexicographic zs (numbers r)) (sym e)
-                    (l.least (numbers r) (omega (arith, size r w)) (rw d (low r w)) (valid_cut S r w, sym d)),
+                    (l.least (numbers r) (omega (arith, size r w)) (subst (λ k. Letters (bound k) (numbers r)) (sym d) (low r w)) (valid_cut S r w, sym d)),
               );
             },
           )

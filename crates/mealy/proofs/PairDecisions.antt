@@ -26,7 +26,7 @@ dec_letters n (x ∷ xs) = Dec.and (dec_lt x n) (dec_letters n xs)
 
 dec_runs : {P : Run → Type 0} → ((r : Run) → Dec (P r)) → Dec ((r : Run) → P r)
 dec_runs {P} d =
-    map_dec (λ z r. elim r [ first ↦ z.0 | second ↦ z.1 ]) (λ h. (h first, h second)) (Dec.and (d first) (d second))
+    map_dec (λ z r. elim r as (λ k. P k) [ first ↦ z.0 | second ↦ z.1 ]) (λ h. (h first, h second)) (Dec.and (d first) (d second))
 
 pub dec_valid :
     (S : Setting) → ((s : ℕ) → Dec (S.Start s)) → ((i j : ℕ) → Dec (S.Conflict i j)) → (p : LoopedPair) → Dec (Valid S p)

@@ -5,7 +5,7 @@ use mathlib.Core.List.{◌∷◌, ◌++◌}
 use Prim.Native.Nat.{ℕ, zero, suc, ◌+◌, ◌*◌, ◌≤◌}
 use native.Mathlib.Omega.{arith}
 use lib.ListN.{length}
-use Rattle.mealy.specs.Machine.{Machine, end}
+use Rattle.mealy.specs.Machine.{Machine, end, Letters}
 use Rattle.mealy.specs.Setting.{Setting}
 use Rattle.mealy.specs.LoopedPair.{LoopedPair, Run, first, second, letter_at, letters_from, mark, unlooped, letters, run_inputs, start_of, Valid}
 use Rattle.mealy.specs.Walk.{Walk, Part, Parts}
@@ -102,13 +102,13 @@ module _ (S : Setting) (p : LoopedPair) where
       record {
         held = h.held;
         start = h.start;
-        below = λ r. elim r [ first ↦ whole.equal.letters₁ | second ↦ whole.equal.letters₂ ];
+        below = λ r. elim r as (λ k. Letters M.inputs (run_inputs p k)) [ first ↦ whole.equal.letters₁ | second ↦ whole.equal.letters₂ ];
         back_letter = a.back.letter;
         forward_letter = a.forward.letter;
         outputs = whole.equal.outputs;
         conflict = h.conflict;
-        back_closed = λ r. elim r [ first ↦ a.back.walk.end₁ | second ↦ a.back.walk.end₂ ];
-        forward_closed = λ r. elim r [ first ↦ whole.end₁ ∙ sym before.end₁ | second ↦ whole.end₂ ∙ sym before.end₂ ];
+        back_closed = λ r. elim r as (λ k. end M (start_of p k) (letters_from p k 0 p.back_loop) ≡ start_of p k) [ first ↦ a.back.walk.end₁ | second ↦ a.back.walk.end₂ ];
+        forward_closed = λ r. elim r as (λ k. end M (start_of p k) (run_inputs p k) ≡ end M (start_of p k) (letters_from p k 0 (unlooped p))) [ first ↦ whole.end₁ ∙ sym before.end₁ | second ↦ whole.end₂ ∙ sym before.end₂ ];
       }
 
   pub valid↔parts : Valid S p ↔ ValidParts S p

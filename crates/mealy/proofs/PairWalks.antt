@@ -8,7 +8,7 @@ use lib.Seq.{get_or_at}
 use Rattle.mealy.specs.Machine.{Machine}
 use Rattle.mealy.specs.Setting.{Setting}
 use Rattle.mealy.specs.Product.{ConflictEdge}
-use Rattle.mealy.specs.LoopedPair.{LoopedPair, first, second, letter_at, letters_from, mark, unlooped, Valid}
+use Rattle.mealy.specs.LoopedPair.{LoopedPair, first, second, letter_at, letters_from, mark, unlooped, start_of, Valid}
 use Rattle.mealy.specs.Walk.{Walk, Part}
 use Rattle.mealy.proofs.Edges.{equal_edge}
 use Rattle.mealy.proofs.Walks.{walk_cons, walk_tail}
@@ -174,7 +174,7 @@ module _ (S : Setting) {s t b i o f : ℕ} (w : PairWalks S s t b i o f) where
       let e₂ : letter_at p second (mark p) ≡ c.j = cc in
       parts→valid S p (record {
         held = simp length-append (omega arith);
-        start = λ r. elim r [ first ↦ w.start₁ | second ↦ w.start₂ ];
+        start = λ r. elim r as (λ k. S.Start (start_of pair_of_walks k)) [ first ↦ w.start₁ | second ↦ w.start₂ ];
         conflict = rw (e₁, e₂) c.conflict;
         parts = record {
           u = w.u;
