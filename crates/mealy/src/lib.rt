@@ -1,1 +1,2 @@
 // The theory of line coders as Mealy machines: definitions in specs/, laws in proofs/, no code.
+#![tactic(auto)]

@@ -1,4 +1,5 @@
 // Reads a coder file from standard input, at most 1,024 bytes, and writes the report on it.
+#![tactic(auto)]
 
 fn main() {
     let mut input = [0u8; 1024];

@@ -1,1 +1,2 @@
 // Theorems over the promises of several calls: laws in proofs/, no code.
+#![tactic(auto)]

@@ -1,0 +1,10 @@
+-- `byte` meets its contract: a byte of a slice is below 256.
+use mathlib.Core.Path.{refl}
+use native.Mathlib.Omega.{arith}
+use Rattle.coder.proofs.inner.bytes.byte.Goals as goal
+
+pub overflow_cast-result : goal.overflow_cast-result
+overflow_cast-result c = omega (arith, c.type_inv.s c.before.args.i)
+
+pub returns : goal.returns
+returns c = (refl, omega (arith, c.type_inv.s c.before.args.i))
