@@ -37,7 +37,7 @@ module _ (A B : Machine) (j : Joinable A B) where
   -- what the first puts out, the second takes
   pub letters_outs : (s : ℕ) (xs : List ℕ) → s < A.states → Letters A.inputs xs → Letters B.inputs (outs A s xs)
   letters_outs s [] l m = tt
-  letters_outs s (x ∷ xs) l m = (outputs s x l m.0, letters_outs _ xs (total₁ s x l m.0) m.1)
+  letters_outs s (x ∷ xs) l m = (outputs s x l m.0, letters_outs (A.next s x) xs (total₁ s x l m.0) m.1)
 
   -- ---- runs
 
@@ -57,7 +57,7 @@ module _ (A B : Machine) (j : Joinable A B) where
   joined_outs s t (x ∷ xs) l m h =
       ap₂ ◌∷◌ (joined_out s t x m)
       (ap (λ q. outs (joined A B) q xs) (joined_next s t x m)
-      ∙ joined_outs _ _ xs (total₁ s x l h.0) (total₂ t _ m (outputs s x l h.0)) h.1)
+      ∙ joined_outs (A.next s x) (B.next t (A.out s x)) xs (total₁ s x l h.0) (total₂ t _ m (outputs s x l h.0)) h.1)
 
   pub joined_end :
       (s t : ℕ) (xs : List ℕ) → s < A.states → t < B.states → Letters A.inputs xs →
@@ -65,4 +65,4 @@ module _ (A B : Machine) (j : Joinable A B) where
   joined_end s t [] l m h = refl
   joined_end s t (x ∷ xs) l m h =
       ap (λ q. end (joined A B) q xs) (joined_next s t x m)
-      ∙ joined_end _ _ xs (total₁ s x l h.0) (total₂ t _ m (outputs s x l h.0)) h.1
+      ∙ joined_end (A.next s x) (B.next t (A.out s x)) xs (total₁ s x l h.0) (total₂ t _ m (outputs s x l h.0)) h.1
