@@ -9,39 +9,39 @@ use Rattle.mealy.proofs.Members.{LeastMember, least_member, Passed, passed_none,
 use Rattle.fitting.proofs.inner.sets.of_state.Statement.{statement}
 use Rattle.fitting.proofs.inner.sets.of_state.Tie as tie
 
-abbrev invariant_loop : tie.invariant_loop
+abbrev invariant_loop : tie.invariant-loop-rest
 invariant_loop next s letters from fit₀ rest₀ fit rest = Passed letters rest (λ x y. (y ≡ x) × Has from (get_or next (16 * s + x) 0)) fit
 
-abbrev decreases_loop : tie.decreases_loop
+abbrev decreases_loop : tie.decreases-loop-rest
 decreases_loop next s letters from fit₀ rest₀ fit rest = rest
 
-loop-holds : tie.Need-loop-init invariant_loop decreases_loop
+loop-holds : tie.Need-loop-rest-init invariant_loop decreases_loop
 loop-holds c = passed_none (omega arith)
 
 -- the least member of the rest
-member : (c : tie.In-loop invariant_loop decreases_loop) → LeastMember 16 c.before.loop.rest
-member c = least_member 16 _ c.before.loop.invariant.left.bound c.loop-test.true
+member : (c : tie.In-loop-rest invariant_loop decreases_loop) → LeastMember 16 c.loop-rest.rest
+member c = least_member 16 _ c.loop-rest.invariant.left.bound c.loop-rest-test.true
 
-cast-x : tie.Need-overflow-cast-x invariant_loop decreases_loop
+cast-x : tie.Need-overflow_cast-x invariant_loop decreases_loop
 cast-x c = omega (arith, (member c).below)
 
-on-letter-requires : tie.Need-on-letter-requires invariant_loop decreases_loop
-on-letter-requires c κs = let l = (member c).below in let p = c.before.before.requires in (p.0, l, p.1)
+on-letter-requires : tie.Need-on_letter-fit-requires invariant_loop decreases_loop
+on-letter-requires c κs = let l = (member c).below in let p = c.requires in (p.0, l, p.1)
 
-sub-rest : tie.Need-overflow-sub-rest invariant_loop decreases_loop
-sub-rest c = let n = c.before.loop-test.true in omega arith
+sub-rest : tie.Need-overflow_sub-rest invariant_loop decreases_loop
+sub-rest c = let n = c.loop-rest-test.true in omega arith
 
-loop-less : tie.Need-loop-smaller invariant_loop decreases_loop
+loop-less : tie.Need-loop-rest-smaller invariant_loop decreases_loop
 loop-less c = (member c.before).taken.less
 
-loop-again : tie.Need-loop-preserved invariant_loop decreases_loop
-loop-again c = passed_more c.before.before.loop.invariant c.before.loop-test.true c.«on-letter».ensures
+loop-again : tie.Need-loop-rest-preserved invariant_loop decreases_loop
+loop-again c = passed_more c.loop-rest.invariant c.loop-rest-test.true c.on_letter-fit.ensures
 
 returns : tie.Need-returns invariant_loop decreases_loop
-returns c = holds_map (λ x i. let e = i.step.0 in (rw (← e) at i.from, rw (← e) at i.step.1)) (λ x h. record { s = x; from = h.0; step = (refl, h.1) }) (passed_all c.before.loop.invariant c.loop-test.false)
+returns c = holds_map (λ x i. let e = i.step.0 in (rw (← e) at i.from, rw (← e) at i.step.1)) (λ x h. record { s = x; from = h.0; step = (refl, h.1) }) (passed_all c.loop-rest.invariant c.loop-rest-test.false)
 
-pub of-state-spec : {M : Type 1} → statement M
-of-state-spec =
+pub of_state_spec : {M : Type 1} → statement M
+of_state_spec =
     tie.close
     (tie.spec
     invariant_loop

@@ -10,76 +10,76 @@ use Rattle.fitting.proofs.Making.{word_of, steps_by_output}
 use Rattle.fitting.proofs.inner.tables.by_output.Statement.{statement}
 use Rattle.fitting.proofs.inner.tables.by_output.Tie as tie
 
-abbrev invariant_loop : tie.invariant_loop
+abbrev invariant_loop : tie.invariant-loop-p
 invariant_loop keys values output states inputs words₀ p₀ words p =
     (p ≤ 16 * states) × StepsTaken (word_of keys output) (Gives values inputs) 1024 p words
 
-abbrev decreases_loop : tie.decreases_loop
+abbrev decreases_loop : tie.decreases-loop-p
 decreases_loop keys values output states inputs words₀ p₀ words p = 16 * states - p
 
-none-requires : tie.Need-none-requires invariant_loop decreases_loop
+none-requires : tie.Need-none-words-requires invariant_loop decreases_loop
 none-requires c κs = search rules
 
-loop-holds : tie.Need-loop-init invariant_loop decreases_loop
-loop-holds c = let e = c.«none».ensures in (omega arith, steps_none e.0 e.1)
+loop-holds : tie.Need-loop-p-init invariant_loop decreases_loop
+loop-holds c = let e = c.none-words.ensures in (omega arith, steps_none e.0 e.1)
 
-mul-loop : tie.Need-overflow-mul-loop invariant_loop decreases_loop
+mul-loop : tie.Need-overflow_mul-states invariant_loop decreases_loop
 mul-loop c = search rules
 
-element-copy-out-at : tie.Need-element-copy-out-at invariant_loop decreases_loop
+element-copy-out-at : tie.Need-bounds-output-p invariant_loop decreases_loop
 element-copy-out-at c = search rules
 
 -- where the entry's word stands
-key_low : (c : tie.After-at2 invariant_loop decreases_loop) → get_or c.before.before.before.before.before.args.keys.now c.before.before.before.loop.p 0 < 16
-key_low c = c.before.before.before.before.before.requires.keys_high c.before.before.before.loop.p
+key_low : (c : tie.After-way_told-in-loop-p-1 invariant_loop decreases_loop) → get_or c.args.keys.now c.loop-p.p 0 < 16
+key_low c = c.requires.keys_high c.loop-p.p
 
-output_low : (c : tie.After-at2 invariant_loop decreases_loop) → get_or c.before.before.before.before.before.args.output.now c.before.before.before.loop.p 0 < 64
-output_low c = c.before.before.before.before.before.requires.output_high c.before.before.before.loop.p
+output_low : (c : tie.After-way_told-in-loop-p-1 invariant_loop decreases_loop) → get_or c.args.output.now c.loop-p.p 0 < 64
+output_low c = c.requires.output_high c.loop-p.p
 
-cast-at : tie.Need-overflow-cast-at invariant_loop decreases_loop
-cast-at c = let p = c.before.before.before.before in omega (arith, p.requires.output_high c.before.before.loop.p)
+cast-at : tie.Need-overflow_cast-at invariant_loop decreases_loop
+cast-at c = let p = c in omega (arith, p.requires.output_high c.loop-p.p)
 
-mul_at : tie.Need-overflow-mul-at invariant_loop decreases_loop
-mul_at c = let p = c.before.before.before.before in omega (arith, p.requires.output_high c.before.before.loop.p)
+mul_at : tie.Need-overflow_mul-at invariant_loop decreases_loop
+mul_at c = let p = c in omega (arith, p.requires.output_high c.loop-p.p)
 
-element-copy-out-at-2 : tie.Need-element-copy-out-at-2 invariant_loop decreases_loop
+element-copy-out-at-2 : tie.Need-bounds-keys-p invariant_loop decreases_loop
 element-copy-out-at-2 c = search rules
 
-cast-at-2 : tie.Need-overflow-cast-at-2 invariant_loop decreases_loop
-cast-at-2 c = omega (arith, key_low c, output_low c)
+cast-at-2 : tie.Need-overflow_cast-at-in-loop-p invariant_loop decreases_loop
+cast-at-2 c = omega (arith, key_low c.before, output_low c.before)
 
-add_at : tie.Need-overflow-add-at invariant_loop decreases_loop
-add_at c = omega (arith, key_low c, output_low c)
+add_at : tie.Need-overflow_add-at invariant_loop decreases_loop
+add_at c = omega (arith, key_low c.before, output_low c.before)
 
-mul_words : tie.Need-overflow-mul-words invariant_loop decreases_loop
-mul_words c = omega (arith, key_low c, output_low c)
+mul_words : tie.Need-offset_bounds-words-at invariant_loop decreases_loop
+mul_words c = omega (arith, key_low c.before, output_low c.before)
 
-array-read-words : tie.Need-array-read-words invariant_loop decreases_loop
-array-read-words c = omega (arith, key_low c, output_low c)
+array-read-words : tie.Need-bounds-words-at invariant_loop decreases_loop
+array-read-words c = omega (arith, key_low c.before, output_low c.before)
 
 given-requires : tie.Need-given-requires invariant_loop decreases_loop
-given-requires c κs = let p = c.before.before.before.before.before.requires in (omega (arith, p.states_high), p.values_high)
+given-requires c κs = let p = c.requires in (omega (arith, p.states_high), p.values_high)
 
-mul-words-2 : tie.Need-overflow-mul-words-2 invariant_loop decreases_loop
-mul-words-2 c = omega (arith, key_low c.before, output_low c.before)
+mul-words-2 : tie.Need-offset_bounds-words-at-in-loop-p invariant_loop decreases_loop
+mul-words-2 c = omega (arith, key_low c.before.before, output_low c.before.before)
 
-array-write-words : tie.Need-array-write-words invariant_loop decreases_loop
-array-write-words c = omega (arith, key_low c.before, output_low c.before)
+array-write-words : tie.Need-bounds-words-at-in-loop-p invariant_loop decreases_loop
+array-write-words c = omega (arith, key_low c.before.before, output_low c.before.before)
 
-add-p : tie.Need-overflow-add-p invariant_loop decreases_loop
+add-p : tie.Need-overflow_add-p invariant_loop decreases_loop
 add-p c = search rules
 
-loop-less : tie.Need-loop-smaller invariant_loop decreases_loop
+loop-less : tie.Need-loop-p-smaller invariant_loop decreases_loop
 loop-less c = search rules
 
-loop-again : tie.Need-loop-preserved invariant_loop decreases_loop
-loop-again c = let i = c.before.before.before.before.loop in (omega arith, steps_more i.invariant.1 (omega (arith, key_low c.before, output_low c.before)) c.given.ensures)
+loop-again : tie.Need-loop-p-preserved invariant_loop decreases_loop
+loop-again c = let i = c.loop-p in (omega arith, steps_more i.invariant.1 (omega (arith, key_low c.before.before, output_low c.before.before)) c.given.ensures)
 
 returns : tie.Need-returns invariant_loop decreases_loop
-returns c = let i = c.before.loop in let e : i.p ≡ 16 * c.before.before.before.args.states = omega arith in steps_by_output c.before.before.before.requires.keys_high (rw e at i.invariant.1)
+returns c = let i = c.loop-p in let e : i.p ≡ 16 * c.args.states = omega arith in steps_by_output c.requires.keys_high (rw e at i.invariant.1)
 
-pub by-output-spec : {M : Type 1} → statement M
-by-output-spec =
+pub by_output_spec : {M : Type 1} → statement M
+by_output_spec =
     tie.close
     (tie.spec
     invariant_loop

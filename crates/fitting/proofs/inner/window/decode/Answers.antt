@@ -1,0 +1,26 @@
+-- `decode` meets its contract: the letters that fit and the letters that lead to some state, by the tables, are those by the coder's runs.
+use Rattle.fitting.proofs.Meaning.{tables_asked, decoded_in}
+use Rattle.fitting.proofs.inner.window.decode.Goals as goal
+
+pub fitting-fit-requires : goal.fitting-fit-requires
+fitting-fit-requires c = let p = c.requires in (tables_asked p.0.is, p.1, p.2)
+
+pub how_far-requires : goal.how_far-requires
+how_far-requires c =
+    let p = c.requires in
+    let a = tables_asked p.0.is in
+    (search (a.successors_words, a.predecessors_words), p.1, p.0.is.starts_are.some)
+
+pub returns-then-fit-eq0 : goal.returns-then-fit-eq0
+returns-then-fit-eq0 c = λ d k.
+    let n = c in
+    let f = n in
+    let p = f in
+    decoded_in k p.args.window.now p.args.b p.requires.1 p.requires.2 (rw n.if-fit-eq0.true at f.fitting-fit.ensures)
+    (λ z. c.how_far.ensures)
+
+pub returns : goal.returns
+returns c = λ d k.
+    let f = c in
+    let p = f in
+    decoded_in k p.args.window.now p.args.b p.requires.1 p.requires.2 f.fitting-fit.ensures (λ z. absurd (c.if-fit-eq0.false z))

@@ -1,0 +1,18 @@
+-- `present` meets its contract: with no letter after the present one each letter of an entry fits, else those between the two sets.
+use Rattle.fitting.proofs.Present.{here_last, here_between}
+use Rattle.mealy.specs.Word.{Has}
+use Rattle.fitting.proofs.inner.window.present.Goals as goal
+
+pub returns-then-after-eq0 : goal.returns-then-after-eq0
+returns-then-after-eq0 c =
+    λ s k.
+    let a = c.args in
+    here_last a.next.now s a.letters.now a.o (Has a.set) a.after.now c.if-after-eq0.true c.image.ensures
+
+pub returns : goal.returns
+returns c =
+    λ s k.
+    let p = c in
+    let a = p.args in
+    here_between a.next.now s a.letters.now a.o (Has a.set) a.after.now a.predecessors.now k
+    p.requires.after_letters c.lead.ensures c.between.ensures
