@@ -16,61 +16,48 @@ use borrow.Author.Rules.{rules}
 use Rattle.search.proofs.inner.checked.Statement.{statement}
 use Rattle.search.proofs.inner.checked.Tie as tie
 
--- the start of the call, seen from where the coder is known
-abbrev start : tie.After-from-checked → tie.Start
-start f = f.before.before.before
-
 file_accepted : (s : tie.Start) → Accepted s.args.file.now
 file_accepted s = accepted _ (search_accepted _ _ _ s.requires).file
 
--- the coder, seen from where both words are known
-abbrev coder : tie.After-different-letters → tie.After-from-checked
-coder d = d.before.before
-
 words :
-    (d : tie.After-different-letters) →
-    WordsOf (coder d).from-checked.result (start (coder d)).args.settle (λ i j. i ≢ j) d.before.start-states.result
-    d.different-letters.result
-words d = record { starts_are = d.before.start-states.ensures; conflicts_are = d.different-letters.ensures }
+    (d : tie.After-different_letters-conflicts) →
+    WordsOf d.from_checked-c.result d.args.settle (λ i j. i ≢ j) d.start_states-starts.result
+    d.different_letters-conflicts.result
+words d = record { starts_are = d.start_states-starts.ensures; conflicts_are = d.different_letters-conflicts.ensures }
 
-from-checked-requires : tie.Need-from-checked-requires
-from-checked-requires c κs = (search_accepted _ _ _ c.before.before.requires).file
+from-checked-requires : tie.Need-from_checked-c-requires
+from-checked-requires c κs = (search_accepted _ _ _ c.requires).file
 
-start-states-requires : tie.Need-start-states-requires
-start-states-requires c κs = coder_sound c.from-checked.ensures (file_accepted (start c))
+start-states-requires : tie.Need-start_states-starts-requires
+start-states-requires c κs = coder_sound c.from_checked-c.ensures (file_accepted c.before.before.before)
 
-different-letters-requires : tie.Need-different-letters-requires
+different-letters-requires : tie.Need-different_letters-conflicts-requires
 different-letters-requires c κs = search rules
 
 verdict-requires : tie.Need-verdict-requires
 verdict-requires c κs =
-    let d = c.before.before in
-    let f = coder d in
-    let a = file_accepted (start f) in (
-      coder_sound f.from-checked.ensures a,
-      words_closed f.from-checked.ensures a (words d),
-      leb-true _ _ (search_accepted _ _ _ (start f).pre).fits,
+    let a = file_accepted c.before.before.before.before.before.before.before in (
+      coder_sound c.from_checked-c.ensures a,
+      words_closed c.from_checked-c.ensures a (words c.before.before),
+      leb-true _ _ (search_accepted _ _ _ c.requires).fits,
     )
 
-same_length : tie.Need-same-length
+same_length : tie.Need-shape_of-letters
 same_length c = search rules
 
 returns : tie.Need-returns
 returns c =
-    let v = c.before.before in
-    let d = v.before.before.before in
-    let f = coder d in
-    let a = file_accepted (start f) in
-    let e = f.from-checked.ensures in
+    let a = file_accepted c.before.before.before.before.before.before.before.before.before.before in
+    let e = c.from_checked-c.ensures in
     let same = ap (λ (M : Machine). M.states) (coder_machine e a) in
-    let p = (start f).args.settle in
-    let M = machine_of (start f).args.file.now in
-    let w = same_setting e a (words d) in
-    says_same (relation_of (start f).args.order) p w (omega arith) (λ q x. first_after M p q (first_same w q x)) v.verdict.result _ _
-    v.verdict.ensures
+    let p = c.args.settle in
+    let M = machine_of c.args.file.now in
+    let w = same_setting e a (words c.before.before.before.before.before) in
+    says_same (relation_of c.args.order) p w (omega arith) (λ q x. first_after M p q (first_same w q x)) c.verdict.result _ _
+    c.verdict.ensures
 
-pub checked-spec : {M : Type 1} → statement M
-checked-spec =
+pub checked_spec : {M : Type 1} → statement M
+checked_spec =
     tie.close
     (tie.spec
     from-checked-requires

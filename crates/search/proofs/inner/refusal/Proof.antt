@@ -7,35 +7,33 @@ use Rattle.search.specs.Search.{search_refusal}
 use Rattle.search.proofs.inner.refusal.Statement.{statement}
 use Rattle.search.proofs.inner.refusal.Tie as tie
 
-refusal-requires : tie.Need-refusal-requires
+refusal-requires : tie.Need-refusal-k-requires
 refusal-requires c κs = search rules
 
-returns : tie.Need-returns
+returns : tie.Need-returns-then-k-ne0
 unfolding search_refusal
-returns c = refused_first _ _ c.before.refusal.ensures c.if1.true
+returns c = refused_first _ _ c.refusal-k.ensures c.if-k-ne0.true
 
-file_accepted : (c : tie.Else1) → file_refusal c.before.before.before.args.file.now ≡ 0
-file_accepted c = via c.before.refusal.ensures c.if1.false
+file_accepted : (c : tie.Else-k-ne0) → file_refusal c.args.file.now ≡ 0
+file_accepted c = via c.refusal-k.ensures c.if-k-ne0.false
 
-settle-requires : tie.Need-settle-requires
+settle-requires : tie.Need-settle-j-requires
 settle-requires c κs = search rules
 
-returns-2 : tie.Need-returns-2
+returns-2 : tie.Need-returns-then-j-ne0
 unfolding search_refusal
-returns-2 c = rw (file_accepted c.before.before) (refused_first _ _ c.before.settle.ensures c.if2.true)
+returns-2 c = rw (file_accepted c.before.before) (refused_first _ _ c.settle-j.ensures c.if-j-ne0.true)
 
-returns-3 : tie.Need-returns-3
+returns-3 : tie.Need-returns-then-fits
 unfolding search_refusal
 returns-3 c =
-    let s = c.before in
-    rw (file_accepted s.before.before, ← s.before.settle.ensures, s.if2.false, c.if3.true)
+    rw (file_accepted c.before.before.before, ← c.settle-j.ensures, c.if-j-ne0.false, c.if-fits.true)
 
-returns-4 : tie.Need-returns-4
+returns-4 : tie.Need-returns-else-fits
 unfolding search_refusal
 returns-4 c =
-    let s = c.before in
-    rw (file_accepted s.before.before, ← s.before.settle.ensures, s.if2.false, c.if3.false)
+    rw (file_accepted c.before.before.before, ← c.settle-j.ensures, c.if-j-ne0.false, c.if-fits.false)
 
-pub refusal-spec : {M : Type 1} → statement M
-refusal-spec =
+pub refusal_spec : {M : Type 1} → statement M
+refusal_spec =
     tie.close (tie.spec refusal-requires returns settle-requires returns-2 returns-3 returns-4)

@@ -6,39 +6,33 @@ use Rattle.search_kinds.proofs.Reports.{SearchKindsAccepted, search_kinds_accept
 use Rattle.search_kinds.proofs.inner.checked.Statement.{statement}
 use Rattle.search_kinds.proofs.inner.checked.Tie as tie
 
-from-checked-requires : tie.Need-from-checked-requires
-from-checked-requires c κs = (search_kinds_accepted _ _ _ c.before.before.requires).list.file
+from-checked-requires : tie.Need-from_checked-c-requires
+from-checked-requires c κs = (search_kinds_accepted _ _ _ c.requires).list.file
 
--- the start of the call, seen from where the coder is known
-abbrev start : tie.After-from-checked → tie.Start
-start k = k.before.before.before
+accepted_call : (k : tie.After-from_checked-c) → SearchKindsAccepted k.args.file.now k.args.kinds.now true
+accepted_call k = search_kinds_accepted _ _ _ k.requires
 
-accepted_call : (k : tie.After-from-checked) → SearchKindsAccepted (start k).args.file.now (start k).args.kinds.now true
-accepted_call k = search_kinds_accepted _ _ _ (start k).requires
-
-file_accepted : (k : tie.After-from-checked) → Accepted (start k).args.file.now
+file_accepted : (k : tie.After-from_checked-c) → Accepted k.args.file.now
 file_accepted k = accepted _ (accepted_call k).list.file
 
-start-states-requires : tie.Need-start-states-requires
-start-states-requires c κs = coder_sound c.from-checked.ensures (file_accepted c)
+start-states-requires : tie.Need-start_states-starts-requires
+start-states-requires c κs = coder_sound c.from_checked-c.ensures (file_accepted c)
 
 find-requires : tie.Need-find-requires
 find-requires c κs =
-    let k = c.before in
-    let e = k.from-checked.ensures in
+    let e = c.from_checked-c.ensures in
     record {
-      sound = coder_sound e (file_accepted k);
-      closed = started_closed e (file_accepted k) c.start-states.ensures;
-      low = (accepted_call k).list.low;
+      sound = coder_sound e (file_accepted c.before);
+      closed = started_closed e (file_accepted c.before) c.start_states-starts.ensures;
+      low = (accepted_call c.before).list.low;
     }
 
 returns : tie.Need-returns
 returns c =
-    let k = c.before.before in
-    let e = k.from-checked.ensures in
-    let a = file_accepted k in
-    says_same e a c.before.start-states.ensures (start k).args.kinds.now c.find.result c.find.ensures
+    let e = c.from_checked-c.ensures in
+    let a = file_accepted c.before.before in
+    says_same e a c.start_states-starts.ensures c.args.kinds.now c.find.result c.find.ensures
 
-pub checked-spec : {M : Type 1} → statement M
-checked-spec =
+pub checked_spec : {M : Type 1} → statement M
+checked_spec =
     tie.close (tie.spec from-checked-requires start-states-requires find-requires returns)

@@ -10,61 +10,48 @@ use Rattle.search_kinds.proofs.Tries.{reported}
 use Rattle.search_kinds.proofs.inner.find.Statement.{statement}
 use Rattle.search_kinds.proofs.inner.find.Tie as tie
 
--- what was done before, seen from where the chain is known: the two calls for the depths, and the start of the call
-abbrev forwarded : tie.After-by-key → tie.After-forward
-forwarded b = b.before.before.before
-
-abbrev backed : tie.After-by-key → tie.After-back
-backed b = (forwarded b).before
-
-abbrev start : tie.After-by-key → tie.Start
-start b = (backed b).before.before
-
 depths :
-    (b : tie.After-by-key) →
-    DepthsOf (start b).args.t1 (start b).args.starts (backed b).back.result (forwarded b).forward.result
+    (b : tie.After-by_key-chain) →
+    DepthsOf b.args.c b.args.starts b.back-backs.result b.forward-forwards.result
 depths b =
-    record { closed = (start b).requires.closed; back_depths = (backed b).back.ensures; forward_depths = (forwarded b).forward.ensures }
+    record { closed = b.requires.closed; back_depths = b.back-backs.ensures; forward_depths = b.forward-forwards.ensures }
 
 asked :
-    (b : tie.After-by-key) →
-    KindsAsked (start b).args.t1 b.by_key.result.last b.by_key.result.previous (backed b).back.result
-    (forwarded b).forward.result (start b).args.kinds.now
+    (b : tie.After-by_key-chain) →
+    KindsAsked b.args.c b.by_key-chain.result.last b.by_key-chain.result.previous b.back-backs.result
+    b.forward-forwards.result b.args.kinds.now
 asked b =
-    let p = (start b).requires in
+    let p = b.requires in
     record {
-      product = record { sound = p.sound; chained = b.by_key.ensures; starts = (start b).args.starts; depths = depths b };
+      product = record { sound = p.sound; chained = b.by_key-chain.ensures; starts = b.args.starts; depths = depths b };
       low = p.low;
     }
 
-back-requires : tie.Need-back-requires
+back-requires : tie.Need-back-backs-requires
 back-requires c κs = search rules
 
-forward-requires : tie.Need-forward-requires
+forward-requires : tie.Need-forward-forwards-requires
 forward-requires c κs = search rules
 
-by-key-requires : tie.Need-by-key-requires
-by-key-requires c κs = output_keys _ c.before.before.before.before.before.requires.sound
+by-key-requires : tie.Need-by_key-chain-requires
+by-key-requires c κs = output_keys _ c.requires.sound
 
-carried-kinds-requires : tie.Need-carried-kinds-requires
-carried-kinds-requires c κs = asked c.before.before.before.before.before
+carried-kinds-requires : tie.Need-carried_kinds-carried-requires
+carried-kinds-requires c κs = asked c.before.before.before.before
 
-least-window-requires : tie.Need-least-window-requires
-least-window-requires c κs = asked c.before.before.before.before.before.before.before.before.before.before.before
+least-window-requires : tie.Need-least_window-least-requires
+least-window-requires c κs = asked c.before.before.before.before.before.before.before.before.before
 
-verdict-of-requires : tie.Need-verdict-of-requires
+verdict-of-requires : tie.Need-verdict_of-requires
 verdict-of-requires c κs = search rules
 
 returns : tie.Need-returns
 returns c =
-    let t = c.before in
-    let k = t.before.before.before.before.before.before in
-    let b = k.before.before.before.before.before.before in
-    let kind = kind_of (start b).args.kinds.now in
-    rw c.verdict-of.ensures
-    (reported _ (start b).requires.sound (start b).args.starts (depths b) kind k.carried-kinds.result
-    (apart_carried kind (Has k.carried-kinds.result)) k.carried-kinds.ensures t.least_window.result
-    t.least_window.ensures)
+    let kind = kind_of c.args.kinds.now in
+    rw c.verdict_of.ensures
+    (reported _ c.requires.sound c.args.starts (depths c.before.before.before.before.before.before.before.before.before.before.before) kind c.carried_kinds-carried.result
+    (apart_carried kind (Has c.carried_kinds-carried.result)) c.carried_kinds-carried.ensures c.least_window-least.result
+    c.least_window-least.ensures)
 
 pub find_spec : {M : Type 1} → statement M
 find_spec =

@@ -9,48 +9,41 @@ use Rattle.decoder_refusal.proofs.Accepting.{window_accepted}
 use Rattle.decoder.proofs.inner.checked.decode_one.Statement.{statement}
 use Rattle.decoder.proofs.inner.checked.decode_one.Tie as tie
 
-from-checked-requires : tie.Need-from-checked-requires
-from-checked-requires c κs = (window_accepted _ _ _ _ c.before.before.requires).limits.file
+from-checked-requires : tie.Need-from_checked-c-requires
+from-checked-requires c κs = (window_accepted _ _ _ _ c.requires).limits.file
 
--- the start of the call, seen from where the coder is known
-abbrev start : tie.After-from-checked → tie.Start
-start k = k.before.before.before
-
-coder_of_lem : (k : tie.After-from-checked) → CoderOf k.from-checked.result (start k).args.file.now
-coder_of_lem k = record { is = k.from-checked.ensures; file = (window_accepted _ _ _ _ (start k).requires).limits.file }
+coder_of_lem : (k : tie.After-from_checked-c) → CoderOf k.from_checked-c.result k.args.file.now
+coder_of_lem k = record { is = k.from_checked-c.ensures; file = (window_accepted _ _ _ _ k.requires).limits.file }
 
 -- the received letters are output letters
-low : (k : tie.After-from-checked) → Letters max_outputs (start k).args.received.now
+low : (k : tie.After-from_checked-c) → Letters max_outputs k.args.received.now
 low k =
-    letters_higher (outputs_of (start k).args.file.now) max_outputs (start k).args.received.now
-    (omega (arith, (sound_of (coder_of_lem k)).outputs_high, outputs_of_lem (coder_of_lem k))) (window_accepted _ _ _ _ (start k).requires).letters
+    letters_higher (outputs_of k.args.file.now) max_outputs k.args.received.now
+    (omega (arith, (sound_of (coder_of_lem k)).outputs_high, outputs_of_lem (coder_of_lem k))) (window_accepted _ _ _ _ k.requires).letters
 
-start-states-requires : tie.Need-start-states-requires
+start-states-requires : tie.Need-start_states-starts-requires
 start-states-requires c κs = sound_of (coder_of_lem c)
 
-of-coder-requires : tie.Need-of-coder-requires
+of-coder-requires : tie.Need-of_coder-sets-requires
 of-coder-requires c κs = sound_of (coder_of_lem c.before)
 
 decode-requires : tie.Need-decode-requires
 decode-requires c κs =
-    let tabled = c.before.before.before.before.before.before in
-    let k = tabled.before.before in (
-      record { coder = _; is = tables_of (coder_of_lem k) _ tabled.before.start-states.ensures tabled.of-coder.ensures },
-      low k,
-      omega (arith, (window_accepted _ _ _ _ (start k).requires).long),
+    (
+      record { coder = _; is = tables_of (coder_of_lem c.before.before.before.before.before.before) _ c.start_states-starts.ensures c.of_coder-sets.ensures },
+      low c.before.before.before.before.before.before,
+      omega (arith, (window_accepted _ _ _ _ c.requires).long),
     )
 
 returns : tie.Need-returns
 returns c =
-    let tabled = c.before.before.before.before.before.before.before in
-    let k = tabled.before.before in
-    let a = (start k).args in
-    let s = tabled.before.start-states.ensures in
-    decoded_of (coder_of_lem k) a.w.settle s a.received.now a.w.before
-    (c.decode.ensures _ (tables_of (coder_of_lem k) _ s tabled.of-coder.ensures))
+    let a = c.args in
+    let s = c.start_states-starts.ensures in
+    decoded_of (coder_of_lem c.before.before.before.before.before.before.before) a.w.settle s a.received.now a.w.before
+    (c.decode.ensures _ (tables_of (coder_of_lem c.before.before.before.before.before.before.before) _ s c.of_coder-sets.ensures))
 
-pub decode-one-spec : {M : Type 1} → statement M
-decode-one-spec =
+pub decode_one_spec : {M : Type 1} → statement M
+decode_one_spec =
     tie.close
     (tie.spec
     from-checked-requires

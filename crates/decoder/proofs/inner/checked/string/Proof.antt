@@ -8,68 +8,62 @@ use Rattle.coder.specs.Limits.{max_outputs}
 use Rattle.decoder.proofs.inner.checked.string.Statement.{statement}
 use Rattle.decoder.proofs.inner.checked.string.Tie as tie
 
-from-checked-requires : tie.Need-from-checked-requires
-from-checked-requires c κs = (string_accepted _ _ _ _ c.before.before.before.requires.accepted).limits.file
+from-checked-requires : tie.Need-from_checked-c-requires
+from-checked-requires c κs = (string_accepted _ _ _ _ c.requires.accepted).limits.file
 
-coder_of_lem : (c : tie.After-from-checked) → CoderOf c.from-checked.result c.before.before.before.before.args.file.now
+coder_of_lem : (c : tie.After-from_checked-c) → CoderOf c.from_checked-c.result c.args.file.now
 coder_of_lem c =
     record {
-      is = c.from-checked.ensures;
-      file = (string_accepted _ _ _ _ c.before.before.before.before.requires.accepted).limits.file;
+      is = c.from_checked-c.ensures;
+      file = (string_accepted _ _ _ _ c.requires.accepted).limits.file;
     }
 
-start-states-requires : tie.Need-start-states-requires
+start-states-requires : tie.Need-start_states-starts-requires
 start-states-requires c κs = sound_of (coder_of_lem c)
 
-of-coder-requires : tie.Need-of-coder-requires
+of-coder-requires : tie.Need-of_coder-sets-requires
 of-coder-requires c κs = sound_of (coder_of_lem c.before)
 
-letters-requires : tie.Need-letters-requires
-letters-requires c κs = (string_accepted _ _ _ _ c.before.before.before.before.before.before.requires.accepted).limits.small
+letters-requires : tie.Need-letters-n-requires
+letters-requires c κs = (string_accepted _ _ _ _ c.requires.accepted).limits.small
 
-places-requires : tie.Need-places-requires
-places-requires c κs = (string_accepted _ _ _ _ c.before.before.before.before.before.before.before.requires.accepted).limits.small
+places-requires : tie.Need-places-count-requires
+places-requires c κs = (string_accepted _ _ _ _ c.requires.accepted).limits.small
 
-decode-places-requires : tie.Need-decode-places-requires
+decode-places-requires : tie.Need-decode_places-requires
 decode-places-requires c κs =
-    let sized = c.before.before.before.before.before.before.before in
-    let tabled = sized.before.before in
-    let k = tabled.before.before in
-    let a = k.before.before.before.before.args in
-    let q = k.before.before.before.before.requires in
-    let h = coder_of_lem k in
+    let a = c.args in
+    let q = c.requires in
+    let h = coder_of_lem c.before.before.before.before.before.before.before.before.before in
     let s = sound_of h in
     let r = string_accepted _ _ _ _ q.accepted in
     record {
-      tables = record { coder = _; is = tables_of h _ tabled.before.start-states.ensures tabled.of-coder.ensures };
+      tables = record { coder = _; is = tables_of h _ c.start_states-starts.ensures c.of_coder-sets.ensures };
       below =
           letters_higher (outputs_of a.file.now) max_outputs a.received.now (omega (arith, s.outputs_high, outputs_of_lem h))
           r.letters;
-      present = omega (arith, sized.before.letters.ensures);
-      windows = omega (arith, sized.places.ensures, sized.before.letters.ensures);
-      room = omega (arith, sized.places.ensures, q.room);
+      present = omega (arith, c.letters-n.ensures);
+      windows = omega (arith, c.places-count.ensures, c.letters-n.ensures);
+      room = omega (arith, c.places-count.ensures, q.room);
     }
 
-same_length : tie.Need-same-length
-same_length c = c.before.before.decode-places.auto.1.1.1.1.1.1.1.1.1.0
+same_length : tie.Need-shape_of-output
+same_length c = c.decode_places.auto.output
 
 returns : tie.Need-returns
 returns c =
-    let sized = c.before.before.before.before.before.before.before.before.before.before in
-    let tabled = sized.before.before in
-    let k = tabled.before.before in
-    let a = k.before.before.before.before.args in
-    let h = coder_of_lem k in
+    let a = c.args in
+    let h = coder_of_lem c.before.before.before.before.before.before.before.before.before.before.before.before in
     record {
-      counted = sized.places.ensures;
+      counted = c.places-count.ensures;
       bytes =
-          places_right h a.w tabled.before.start-states.ensures a.received.now sized.before.letters.ensures sized.places.ensures
-          (c.before.before.decode-places.ensures _
-          (tables_of h _ tabled.before.start-states.ensures tabled.of-coder.ensures));
+          places_right h a.w c.start_states-starts.ensures a.received.now c.letters-n.ensures c.places-count.ensures
+          (c.decode_places.ensures _
+          (tables_of h _ c.start_states-starts.ensures c.of_coder-sets.ensures));
     }
 
-pub string-spec : {M : Type 1} → statement M
-string-spec =
+pub string_spec : {M : Type 1} → statement M
+string_spec =
     tie.close
     (tie.spec
     from-checked-requires

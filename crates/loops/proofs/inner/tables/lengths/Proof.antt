@@ -7,44 +7,44 @@ use Rattle.loops.proofs.CostLengths.{CostsOf, pair_below, costs_of, read_all, re
 use Rattle.loops.proofs.inner.tables.lengths.Statement.{statement}
 use Rattle.loops.proofs.inner.tables.lengths.Tie as tie
 
-first-start-requires : tie.Need-first-start-requires
+first-start-requires : tie.Need-first_start-a-requires
 first-start-requires c κs = search rules
 
 -- the number of the pair is that of two states, and its costs are those of some lengths
-below : (c : tie.After-first-start) → c.first_start.result < 256
-below c = pair_below c.before.requires.from (rw c.before.requires.states_are at c.first_start.ensures)
+below : (c : tie.After-first_start-a) → c.first_start-a.result < 256
+below c = pair_below c.requires.from (rw c.requires.states_are at c.first_start-a.ensures)
 
 costs :
-    (c : tie.After-first-start) →
-    CostsOf (get_or c.before.args.loops.now c.first_start.result 0) (get_or c.before.args.heads.now c.first_start.result 0)
-costs c = costs_of c.before.requires.from (rw c.before.requires.states_are at c.first_start.ensures)
+    (c : tie.After-first_start-a) →
+    CostsOf (get_or c.args.loops.now c.first_start-a.result 0) (get_or c.args.heads.now c.first_start-a.result 0)
+costs c = costs_of c.requires.from (rw c.requires.states_are at c.first_start-a.ensures)
 
-mul-head : tie.Need-overflow-mul-head
+mul-head : tie.Need-offset_bounds-heads-a
 mul-head c = omega (arith, below c)
 
-element-copy-out-head : tie.Need-element-copy-out-head
-element-copy-out-head c = omega (arith, below c)
+element-copy-out-head : tie.Need-bounds-heads-a
+element-copy-out-head c = omega (arith, below c.before)
 
-mul-t13 : tie.Need-overflow-mul-t13
-mul-t13 c = omega (arith, below c.before)
+mul-t13 : tie.Need-offset_bounds-loops-a
+mul-t13 c = omega (arith, below c.before.before)
 
-element-copy-out-t16 : tie.Need-element-copy-out-t16
-element-copy-out-t16 c = omega (arith, below c.before)
+element-copy-out-t16 : tie.Need-bounds-loops-a
+element-copy-out-t16 c = omega (arith, below c.before.before.before)
 
-sub-t19 : tie.Need-overflow-sub-t19
-sub-t19 c = let w = costs c.before.before in omega (arith, read_all w)
+sub-t19 : tie.Need-overflow_sub-result
+sub-t19 c = let w = costs c.before.before.before.before in omega (arith, read_all w)
 
-sub-t20 : tie.Need-overflow-sub-t20
-sub-t20 c = let w = costs c.before.before in omega (arith, read_all w, read_in w)
+sub-t20 : tie.Need-overflow_sub-result-2
+sub-t20 c = let w = costs c.before.before.before.before in omega (arith, read_all w, read_in w)
 
-sub-t21 : tie.Need-overflow-sub-t21
-sub-t21 c = let w = costs c.before.before in omega (arith, read_all w, read_in w, read_out w)
+sub-t21 : tie.Need-overflow_sub-result-3
+sub-t21 c = let w = costs c.before.before.before.before in omega (arith, read_all w, read_in w, read_out w)
 
 returns : tie.Need-returns
-returns c k conflicts e f = lengths_found f (rw e at c.before.before.first_start.ensures)
+returns c k conflicts e f = lengths_found f (rw e at c.first_start-a.ensures)
 
-pub lengths-spec : {M : Type 1} → statement M
-lengths-spec =
+pub lengths_spec : {M : Type 1} → statement M
+lengths_spec =
     tie.close
     (tie.spec
     first-start-requires
