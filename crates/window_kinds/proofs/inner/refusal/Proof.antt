@@ -12,36 +12,36 @@ use Rattle.window_kinds.specs.Window.{window_kinds_refusal}
 use Rattle.window_kinds.proofs.inner.refusal.Statement.{statement}
 use Rattle.window_kinds.proofs.inner.refusal.Tie as tie
 
-refusal-requires : tie.Need-refusal-requires
+refusal-requires : tie.Need-refusal-k-requires
 refusal-requires c κs = search rules
 
-returns : tie.Need-returns
+returns : tie.Need-returns-then-k-ne0
 unfolding window_kinds_refusal
-returns c = refused_first _ _ c.before.refusal.ensures c.if1.true
+returns c = refused_first _ _ c.refusal-k.ensures c.if-k-ne0.true
 
 -- the list is not refused
 listed :
-    (c : tie.Else1) →
-    let a = c.before.before.before.before.before.args in list_refusal a.file.now a.kinds.now ≡ 0
-listed c = via c.before.refusal.ensures c.if1.false
+    (c : tie.Else-k-ne0) →
+    let a = c.args in list_refusal a.file.now a.kinds.now ≡ 0
+listed c = via c.refusal-k.ensures c.if-k-ne0.false
 
-sides-requires : tie.Need-sides-requires
+sides-requires : tie.Need-sides-j-requires
 sides-requires c κs = search rules
 
-returns-2 : tie.Need-returns-2
+returns-2 : tie.Need-returns-then-j-ne0
 unfolding window_kinds_refusal
-returns-2 c = rw (listed c.before.before) (refused_first _ _ c.before.sides.ensures c.if2.true)
+returns-2 c = rw (listed c.before.before) (refused_first _ _ c.sides-j.ensures c.if-j-ne0.true)
 
 -- nor are the sides
 sided :
-    (c : tie.Else2) →
-    let a = c.before.before.before.before.before.before.before.args in sides_refusal a.before a.after ≡ 0
-sided c = via c.before.sides.ensures c.if2.false
+    (c : tie.Else-j-ne0) →
+    let a = c.args in sides_refusal a.before a.after ≡ 0
+sided c = via c.sides-j.ensures c.if-j-ne0.false
 
-add-received : tie.Need-overflow-add-received
+add-received : tie.Need-overflow_add-before
 add-received c = let s = sides_accepted _ _ (sided c) in omega (arith, s.before_small)
 
-add-received-2 : tie.Need-overflow-add-received-2
+add-received-2 : tie.Need-overflow_add-before-2
 add-received-2 c = let s = sides_accepted _ _ (sided c) in omega (arith, s.before_small, s.after_small)
 
 byte-requires : tie.Need-byte-requires
@@ -50,15 +50,13 @@ byte-requires c κs = omega (arith, accepted _ (list_accepted _ _ (listed c.befo
 received-requires : tie.Need-received-requires
 received-requires c κs = search rules
 
-returns-3 : tie.Need-returns-3
+returns-3 : tie.Need-returns
 unfolding window_kinds_refusal
 returns-3 c =
-    let b = c.before in
-    let s = b.before in
-    rw (listed s.before.before, sided s, ← b.byte.ensures.0) c.received.ensures
+    rw (listed c.before.before.before.before, sided c.before.before, ← c.byte.ensures.0) c.received.ensures
 
-pub refusal-spec : {M : Type 1} → statement M
-refusal-spec =
+pub refusal_spec : {M : Type 1} → statement M
+refusal_spec =
     tie.close
     (tie.spec
     refusal-requires

@@ -1,0 +1,14 @@
+-- `put_answer` meets its contract: the fields of each answer.
+use Rattle.decoder_host.proofs.put_answer.Goals as goal
+
+pub returns-in-Letter : goal.returns-in-Letter
+returns-in-Letter c =
+    rw c.in-Letter.is (rw c.number.ensures.0 at c.put_one.ensures)
+
+pub returns-in-None : goal.returns-in-None
+returns-in-None c =
+    rw c.in-None.is (rw c.number-in-None.ensures.0 at c.put_two.ensures)
+
+pub returns-in-Several : goal.returns-in-Several
+returns-in-Several c =
+    rw c.in-Several.is (rw c.number-in-Several.ensures.0 at c.put_one-in-Several.ensures)
