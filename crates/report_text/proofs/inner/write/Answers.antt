@@ -1,0 +1,28 @@
+-- `write` meets its contract: the reader's refusal, or its counts and the lines of the verdict.
+use Rattle.report_text.proofs.Reporting.{refused_short, header_counts, counts_short, report_refused, report_accepted}
+use native.Mathlib.Omega.{arith}
+use Rattle.report_text.proofs.inner.write.Goals as goal
+
+pub refused-requires : goal.refused-requires
+refused-requires c =
+    (refused_short _ c.counts-header.ensures c.header-1.given.1, omega (arith, c.requires))
+
+pub coder_line-at-requires : goal.coder_line-at-requires
+coder_line-at-requires c =
+    let l = counts_short _ c.counts-header.ensures c.in-Counts.is in
+    (omega (arith, l), omega (arith, l), omega (arith, l), omega (arith, c.requires))
+
+pub verdict_lines-requires : goal.verdict_lines-requires
+verdict_lines-requires c =
+    (
+      (header_counts _ c.counts-header.ensures c.in-Counts.is).none,
+      omega (arith, c.coder_line-at.auto.0, c.coder_line-at.ensures.1, c.requires),
+    )
+
+pub returns-in-Refused : goal.returns-in-Refused
+returns-in-Refused c =
+    report_refused _ c.counts-header.ensures c.in-Refused.is c.refused.ensures
+
+pub returns-in-Counts : goal.returns-in-Counts
+returns-in-Counts c =
+    report_accepted _ c.counts-header.ensures c.in-Counts.is c.coder_line-at.ensures.0 c.coder_line-at.ensures.1 c.verdict_lines.ensures
