@@ -32,7 +32,7 @@ pub(crate) const FILE: usize = 14;
 
 // A call by its number; the last six numbers that it is given, f the last; where its list of bytes begins and ends, and the list before
 // that; and the place after all.
-#[derive(Drop)]
+#[derive(Clone, Copy)]
 pub(crate) struct Request {
     pub(crate) call: usize,
     pub(crate) a: usize,

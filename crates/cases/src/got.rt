@@ -44,7 +44,7 @@ pub(crate) const TOTAL: usize = 19;
 pub(crate) const LONG: usize = 20;
 
 // The number of a form, and the numbers that stand in it.
-#[derive(Drop)]
+#[derive(Clone, Copy)]
 pub(crate) struct Got {
     pub(crate) form: usize,
     pub(crate) a: usize,

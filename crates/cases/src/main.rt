@@ -11,7 +11,7 @@ use got::Got;
 use reading::{NOWHERE, byte, line_end, list, one_more, part};
 
 // Where the next line begins, where the last line that gave a file begins and ends, and how many cases there were and differ.
-#[derive(Drop)]
+#[derive(Clone, Copy)]
 struct State {
     at: usize,
     from: usize,

@@ -3,14 +3,14 @@
 pub(crate) const NOWHERE: usize = 18446744073709551615;
 
 // A number, and the place after it.
-#[derive(Drop)]
+#[derive(Clone, Copy)]
 pub(crate) struct Value {
     pub(crate) value: usize,
     pub(crate) next: usize,
 }
 
 // A byte, how many times it stands there, and the place after it.
-#[derive(Drop)]
+#[derive(Clone, Copy)]
 struct Item {
     byte: usize,
     times: usize,

@@ -6,7 +6,7 @@ ghost use Rattle.chains.specs.Rows.{Rowed};
 
 // Entries are numbered from 1: entry p + 1 stands at place p of the tables. `last` has for each key the last entry with that key,
 // and `previous` for the place of an entry the entry before it with the same key; 0 for none.
-#[derive(Drop)]
+#[derive(Clone, Copy)]
 pub struct Chain {
     pub last: [u16; 64],
     pub previous: [u16; 256],
@@ -14,7 +14,7 @@ pub struct Chain {
 
 // The places of the entries with key k stand side by side in `entries`, from place start[k] to the one before start[k + 1], the last
 // entry first.
-#[derive(Drop)]
+#[derive(Clone, Copy)]
 pub struct Rows {
     pub start: [u16; 65],
     pub entries: [u8; 256],

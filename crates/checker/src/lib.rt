@@ -8,7 +8,7 @@ use values::LoopedPair;
 pub mod inner; // inner.rt: what the crates above call on checked bytes; no public calls
 
 // The refusal's number, or whether the pair is valid.
-#[derive(Drop)]
+#[derive(Clone, Copy)]
 pub enum CheckResult {
     Refused(usize),
     Checked(bool),

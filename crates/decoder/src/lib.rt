@@ -10,7 +10,7 @@ use values::{CountResult, Window};
 pub mod inner; // inner.rt: what the crates above call on checked bytes; no public calls
 
 // The refusal's number, or the answer: the letter that alone fits, none, or several.
-#[derive(Drop)]
+#[derive(Clone, Copy)]
 pub enum WindowResult {
     Refused(usize),
     Answered(fitting::Answer),

@@ -8,7 +8,7 @@ use lib.Seq.{drop-cons}
 use Rattle.mealy.specs.Machine.{Machine, outs, end, Letters}
 use Rattle.mealy.specs.Setting.{Setting}
 use Rattle.mealy.specs.Product.{Edge}
-use Rattle.mealy.specs.LoopedPair.{LoopedPair, Run, first, second, letter_at, letters_from, mark, unlooped, letters, start_of, Valid}
+use Rattle.mealy.specs.LoopedPair.{LoopedPair, Run, first, second, letter_at, letters_from, mark, unlooped, letters, start_of, run_inputs, Valid}
 use Rattle.mealy.specs.Walk.{Part}
 use Rattle.mealy.specs.First.{Lexicographic}
 use Rattle.mealy.proofs.Walks.{walk_nil, walk_cons}
@@ -101,14 +101,14 @@ pub parts_valid :
     0 < p.forward_loop → PartsOf S p → Valid S p
 parts_valid S p held a b c d w = record {
   held = held;
-  start = λ r. elim r [ first ↦ a | second ↦ b ];
-  below = λ r. elim r [ first ↦ all.equal.letters₁ | second ↦ all.equal.letters₂ ];
+  start = λ r. elim r as (λ k. S.Start (start_of p k)) [ first ↦ a | second ↦ b ];
+  below = λ r. elim r as (λ k. Letters S.M.inputs (run_inputs p k)) [ first ↦ all.equal.letters₁ | second ↦ all.equal.letters₂ ];
   back_letter = c;
   forward_letter = d;
   outputs = all.equal.outputs;
   conflict = w.conflict;
-  back_closed = λ r. elim r [ first ↦ loop.end₁ | second ↦ loop.end₂ ];
-  forward_closed = λ r. elim r [ first ↦ all.end₁ ∙ sym some.end₁ | second ↦ all.end₂ ∙ sym some.end₂ ];
+  back_closed = λ r. elim r as (λ k. end S.M (start_of p k) (letters_from p k 0 p.back_loop) ≡ start_of p k) [ first ↦ loop.end₁ | second ↦ loop.end₂ ];
+  forward_closed = λ r. elim r as (λ k. end S.M (start_of p k) (run_inputs p k) ≡ end S.M (start_of p k) (letters_from p k 0 (unlooped p))) [ first ↦ all.end₁ ∙ sym some.end₁ | second ↦ all.end₂ ∙ sym some.end₂ ];
 }
   where
     loop : Part S.M p 0 p.back_loop p.s p.t p.s p.t

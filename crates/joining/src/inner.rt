@@ -53,7 +53,7 @@ fn refusal(first: &[u8], second: &[u8], room: usize, others: bool) -> usize
 }
 
 // The two bytes of an entry.
-#[derive(Drop)]
+#[derive(Clone, Copy)]
 pub struct EntryBytes {
     pub next: u8,
     pub output: u8,
@@ -84,7 +84,7 @@ fn joined_entry<'a>(
 }
 
 // Where an entry of two coders in a row stands: a state of each, and an input letter.
-#[derive(Drop)]
+#[derive(Clone, Copy)]
 pub struct Place {
     pub first: usize,
     pub second: usize,

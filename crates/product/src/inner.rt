@@ -18,7 +18,7 @@ use setting::inner::both_start;
 pub const ENDLESS: u8 = 255;
 
 // The numbers of two entries, counted from 1: an edge of the product machine where both are above 0.
-#[derive(Drop)]
+#[derive(Clone, Copy)]
 struct Edge {
     pub x: usize,
     pub y: usize,

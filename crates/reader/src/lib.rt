@@ -8,7 +8,7 @@ use coder::inner::bytes::byte;
 pub mod inner; // inner.rt: the refusals of a file; no public calls
 
 // What the reader says of a file: the refusal's number, or N, I and O.
-#[derive(Drop)]
+#[derive(Clone, Copy)]
 pub enum Header {
     Refused(usize),
     Counts {

@@ -6,7 +6,7 @@ ghost use Rattle.report_text.specs.Text.{text_of, Padded};
 pub mod inner; // inner.rt: the report's lines; no public calls
 
 // The first `len` bytes are the text, the others 0.
-#[derive(Drop)]
+#[derive(Clone, Copy)]
 pub struct Text {
     pub bytes: [u8; inner::BYTES],
     pub len: usize,

@@ -5,7 +5,7 @@ ghost use Rattle.running.specs.Run.{RunPromise};
 pub mod inner; // inner.rt: the run with other lent buffers besides its own; no public calls
 
 // What a run returns: the refusal's number, or how many letters it wrote and the state in which it ended.
-#[derive(Drop)]
+#[derive(Clone, Copy)]
 pub enum RunResult {
     Refused(usize),
     Done { count: usize, end: usize },

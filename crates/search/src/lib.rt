@@ -9,14 +9,14 @@ pub mod inner; // inner.rt: the search with other lent buffers besides its own; 
 
 // The least window that works, in the order of the search, or the first looped pair, which excludes every window; its letters lie in the
 // lent buffer.
-#[derive(Drop)]
+#[derive(Clone, Copy)]
 pub enum Verdict {
     Least(values::Window),
     NoDecoder(values::LoopedPair),
 }
 
 // The refusal's number, or the verdict.
-#[derive(Drop)]
+#[derive(Clone, Copy)]
 pub enum SearchResult {
     Refused(usize),
     Found(Verdict),

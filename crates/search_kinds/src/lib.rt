@@ -6,7 +6,7 @@ pub mod inner; // inner.rt: the search with lent buffers; no public calls
 
 // What the search for kinds reports: that no window tells kinds; or the carried kinds, as a word that has bit k for kind k, and the first
 // window that tells the kind always and the letter in every carried kind.
-#[derive(Drop)]
+#[derive(Clone, Copy)]
 pub enum KindsVerdict {
     Cannot,
     Told {
@@ -16,7 +16,7 @@ pub enum KindsVerdict {
 }
 
 // The refusal's number, or the report.
-#[derive(Drop)]
+#[derive(Clone, Copy)]
 pub enum KindsResult {
     Refused(usize),
     Found(KindsVerdict),

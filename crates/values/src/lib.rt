@@ -3,7 +3,7 @@
 pub mod inner; // inner.rt: the comparison of two windows; no public calls
 
 // A window: how many letters before the present one and after it, and how many letters, unseen, its runs read ahead of it.
-#[derive(Drop)]
+#[derive(Clone, Copy)]
 pub struct Window {
     pub before: usize,
     pub after: usize,
@@ -12,7 +12,7 @@ pub struct Window {
 
 // The order in which a search reports the least window that works: least lookahead and, among those, fewest letters before; or fewest
 // letters in all and, among those, least lookahead.
-#[derive(Drop)]
+#[derive(Clone, Copy)]
 pub enum Order {
     LeastLookahead,
     FewestLetters,
@@ -24,7 +24,7 @@ impl Order {
 }
 
 // Starts and lengths of a looped pair; its letters lie in a lent buffer.
-#[derive(Drop)]
+#[derive(Clone, Copy)]
 pub struct LoopedPair {
     pub s: usize,
     pub t: usize,
@@ -35,7 +35,7 @@ pub struct LoopedPair {
 }
 
 // What a call that writes bytes returns: the refusal's number, or how many bytes it wrote.
-#[derive(Drop)]
+#[derive(Clone, Copy)]
 pub enum CountResult {
     Refused(usize),
     Done { count: usize },

@@ -6,7 +6,7 @@ pub mod inner; // inner.rt: the decoder with lent buffers; no public calls
 
 // What the letters of one window say: the letter that alone fits, else the kind that all fitting letters share; no letter, or letters of
 // several kinds.
-#[derive(Drop)]
+#[derive(Clone, Copy)]
 pub enum KindsAnswer {
     Letter(u8),
     Kind(u8),
@@ -15,7 +15,7 @@ pub enum KindsAnswer {
 }
 
 // The refusal's number, or the answer.
-#[derive(Drop)]
+#[derive(Clone, Copy)]
 pub enum WindowKindsResult {
     Refused(usize),
     Answered(KindsAnswer),

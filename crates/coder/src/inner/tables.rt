@@ -8,7 +8,7 @@ use crate::inner::bytes::{byte, number};
 use crate::inner::file::entries;
 
 // A coder: the entry of state s and input letter i stands at 16 s + i of both tables; the other places hold 0.
-#[derive(Drop)]
+#[derive(Clone, Copy)]
 pub struct Coder {
     pub states: usize,
     pub inputs: usize,
@@ -17,7 +17,7 @@ pub struct Coder {
     pub output: [u8; 256],
 }
 
-#[derive(Drop)]
+#[derive(Clone, Copy)]
 pub struct Limits {
     pub states: usize,
     pub inputs: usize,

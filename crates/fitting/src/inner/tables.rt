@@ -47,7 +47,7 @@ pub fn by_output<'a>(
 }
 
 // The tables of a coder by output letter: for each state its successors, its predecessors and its input letters.
-#[derive(Drop)]
+#[derive(Clone, Copy)]
 pub struct Sets {
     pub successors: [u16; 1024],
     pub predecessors: [u16; 1024],

@@ -50,7 +50,7 @@ pub fn fitting<'a>(
 
 // What a window decodes to: the letters that fit; and, where there is none, how many letters of the window, from its first on, some run can
 // produce.
-#[derive(Drop)]
+#[derive(Clone, Copy)]
 pub struct Decoded {
     pub letters: u16,
     pub far: usize,

@@ -14,7 +14,7 @@ use fitting::inner::tables::by_output;
 use values::LoopedPair;
 
 // The least costs, for each pair of states, of a closed walk, of lead-out and forward loop, and of all that follows a back loop.
-#[derive(Drop)]
+#[derive(Clone, Copy)]
 pub struct CostTables {
     pub loops: [usize; 256],
     pub tails: [usize; 256],

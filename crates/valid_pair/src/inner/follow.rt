@@ -16,7 +16,7 @@ use setting::inner::has;
 use values::LoopedPair;
 
 // Whether outputs were equal throughout, and where both runs ended if they were.
-#[derive(Drop)]
+#[derive(Clone, Copy)]
 pub struct Followed {
     pub ok: bool,
     pub u: usize,

@@ -8,55 +8,51 @@ use Rattle.joining.proofs.Coding.{entries_few, coders_match, write_asked, joined
 use Rattle.joining.proofs.inner.checked.Statement.{statement}
 use Rattle.joining.proofs.inner.checked.Tie as tie
 
-from-checked-requires : tie.Need-from-checked-requires
-from-checked-requires c κs = c.before.before.before.requires.matches.first
+from-checked-requires : tie.Need-from_checked-c-requires
+from-checked-requires c κs = c.requires.matches.first
 
-from-checked-requires-2 : tie.Need-from-checked-requires-2
-from-checked-requires-2 c κs = c.before.before.before.before.requires.matches.second
+from-checked-requires-2 : tie.Need-from_checked-d-requires
+from-checked-requires-2 c κs = c.requires.matches.second
 
 match :
-    (c : tie.After-struct-known2) →
-    CodersMatch c.before.before.before.from-checked.result c.before.before.from-checked2.result
+    (c : tie.After-struct_known-2-1) →
+    CodersMatch c.from_checked-c.result c.from_checked-d.result
 match c =
-    let b = c.before.before in
-    coders_match b.before.before.before.before.before.requires b.before.from-checked.ensures b.from-checked2.ensures
+    coders_match c.requires c.from_checked-c.ensures c.from_checked-d.ensures
 
-mul-states : tie.Need-overflow-mul-states
+mul-states : tie.Need-overflow_mul-states
 mul-states c = omega (arith, (match c).states)
 
-entries-requires : tie.Need-entries-requires
+entries-requires : tie.Need-entries-bytes-requires
 entries-requires c κs = match c
 
-mul-end : tie.Need-overflow-mul-end
+mul-end : tie.Need-overflow_mul-end
 mul-end c = omega (arith, entries_few _ _ (match c.before))
 
-mul-end-2 : tie.Need-overflow-mul-end-2
+mul-end-2 : tie.Need-overflow_mul-end-2
 mul-end-2 c = omega (arith, entries_few _ _ (match c.before))
 
-array-share-prefix-bytes : tie.Need-array-share-prefix-bytes
+array-share-prefix-bytes : tie.Need-slice_bounds-bytes-end
 array-share-prefix-bytes c = omega (arith, entries_few _ _ (match c.before))
 
-slice-aggregate-checked : tie.Need-slice-aggregate-checked
-slice-aggregate-checked c = sym (length-take-le _ _ (array-share-prefix-bytes c.before))
+slice-aggregate-checked : tie.Need-slice_bounds-checked-end
+slice-aggregate-checked c = sym (length-take-le _ _ (array-share-prefix-bytes c))
 
 checked-requires : tie.Need-checked-requires
 checked-requires c κs =
-    let b = c.before.before.before.before.before in
-    write_asked b.before.before.before.before.before.requires b.before.from-checked.ensures b.from-checked2.ensures _
-    c.before.before.entries.ensures
+    write_asked c.requires c.from_checked-c.ensures c.from_checked-d.ensures _
+    c.entries-bytes.ensures
 
-same_length : tie.Need-same-length
+same_length : tie.Need-shape_of-file
 same_length c = search rules
 
 returns : tie.Need-returns
 returns c =
-    let e = c.before.before.before.before.before in
-    let b = e.before.before.before in
-    joined_written b.before.before.before.before.before.requires b.before.from-checked.ensures b.from-checked2.ensures _
-    e.entries.ensures c.before.before.checked.ensures
+    joined_written c.requires c.from_checked-c.ensures c.from_checked-d.ensures _
+    c.entries-bytes.ensures c.checked.ensures
 
-pub checked-spec : {M : Type 1} → statement M
-checked-spec =
+pub checked_spec : {M : Type 1} → statement M
+checked_spec =
     tie.close
     (tie.spec
     from-checked-requires

@@ -10,76 +10,71 @@ use Rattle.joining.proofs.Coding.{entries_few, place_none, entry_asked, place_as
 use Rattle.joining.proofs.inner.entries.Statement.{statement}
 use Rattle.joining.proofs.inner.entries.Tie as tie
 
-abbrev invariant_loop : tie.invariant_loop
+abbrev invariant_loop : tie.invariant-loop-j
 invariant_loop c d n bytes₀ at₀ j₀ bytes at j =
     (j ≤ n) × StandsAt d.states c.inputs j at × Filled 512 (entry_byte_of (joined_coders c d)) bytes₀ (2 * j) bytes
 
-abbrev decreases_loop : tie.decreases_loop
+abbrev decreases_loop : tie.decreases-loop-j
 decreases_loop c d n bytes₀ at₀ j₀ bytes at j = n - j
 
-mul-n : tie.Need-overflow-mul-n invariant_loop decreases_loop
+mul-n : tie.Need-overflow_mul-n invariant_loop decreases_loop
 mul-n c = omega (arith, c.requires.states)
 
-mul-n-2 : tie.Need-overflow-mul-n-2 invariant_loop decreases_loop
+mul-n-2 : tie.Need-overflow_mul-n-2 invariant_loop decreases_loop
 mul-n-2 c = omega (arith, entries_few _ _ c.requires)
 
-loop-holds : tie.Need-loop-init invariant_loop decreases_loop
+loop-holds : tie.Need-loop-j-init invariant_loop decreases_loop
 loop-holds c = (omega arith, place_none _ _ c.requires, filled_none refl)
 
-joined-entry-requires : tie.Need-joined-entry-requires invariant_loop decreases_loop
+joined-entry-requires : tie.Need-joined_entry-e-requires invariant_loop decreases_loop
 joined-entry-requires c κs =
-    let l = c.before.before.before.before.before.before.before in
-    entry_asked _ _ l.before.requires l.loop.j l.loop.at l.loop.invariant.1 (search rules)
+    entry_asked _ _ c.requires c.loop-j.j c.loop-j.at c.loop-j.invariant.1 (search rules)
 
 -- entry j is one of the first 256
-inside : (c : tie.After-joined-entry invariant_loop decreases_loop) → c.before.before.before.before.before.before.before.before.loop.j < 256
+inside : (c : tie.After-joined_entry-e invariant_loop decreases_loop) → c.loop-j.j < 256
 inside c =
-    let l = c.before.before.before.before.before.before.before.before in
-    omega (arith, entries_few _ _ l.before.requires)
+    omega (arith, entries_few _ _ c.requires)
 
-mul-bytes : tie.Need-overflow-mul-bytes invariant_loop decreases_loop
+mul-bytes : tie.Need-overflow_mul-bytes invariant_loop decreases_loop
 mul-bytes c = omega (arith, inside c)
 
-array-write-bytes : tie.Need-array-write-bytes invariant_loop decreases_loop
+array-write-bytes : tie.Need-bounds-bytes-j invariant_loop decreases_loop
 array-write-bytes c = omega (arith, inside c)
 
-mul-bytes-2 : tie.Need-overflow-mul-bytes-2 invariant_loop decreases_loop
+mul-bytes-2 : tie.Need-overflow_mul-bytes-in-loop-j invariant_loop decreases_loop
 mul-bytes-2 c = omega (arith, inside c)
 
-add-bytes : tie.Need-overflow-add-bytes invariant_loop decreases_loop
+add-bytes : tie.Need-overflow_add-bytes invariant_loop decreases_loop
 add-bytes c = omega (arith, inside c)
 
-array-write-bytes-2 : tie.Need-array-write-bytes-2 invariant_loop decreases_loop
+array-write-bytes-2 : tie.Need-bounds-bytes-j-in-loop-j invariant_loop decreases_loop
 array-write-bytes-2 c = omega (arith, inside c)
 
-next-place-requires : tie.Need-next-place-requires invariant_loop decreases_loop
+next-place-requires : tie.Need-next_place-next-requires invariant_loop decreases_loop
 next-place-requires c κs =
-    let l = c.before.before.before.before.before.before.before.before in
-    place_asked _ _ l.before.requires l.loop.j l.loop.at l.loop.invariant.1 (search rules)
+    place_asked _ _ c.requires c.loop-j.j c.loop-j.at c.loop-j.invariant.1 (search rules)
 
-add-j : tie.Need-overflow-add-j invariant_loop decreases_loop
+add-j : tie.Need-overflow_add-j invariant_loop decreases_loop
 add-j c = omega (arith, inside c.before)
 
-loop-less : tie.Need-loop-smaller invariant_loop decreases_loop
+loop-less : tie.Need-loop-j-smaller invariant_loop decreases_loop
 loop-less c = search rules
 
-loop-again : tie.Need-loop-preserved invariant_loop decreases_loop
+loop-again : tie.Need-loop-j-preserved invariant_loop decreases_loop
 loop-again c =
-    let l = c.before.before.before.before.before.before.before.before.before in
-    let j = l.loop.j in (
+    let j = c.loop-j.j in (
       search rules,
-      c.next_place.ensures j l.loop.invariant.1,
-      entries_more _ _ l.before.requires j l.loop.at l.loop.invariant.1 l.loop.invariant.2 (array-write-bytes-2 c.before)
-          c.before.joined-entry.ensures,
+      c.next_place-next.ensures j c.loop-j.invariant.1,
+      entries_more _ _ c.requires j c.loop-j.at c.loop-j.invariant.1 c.loop-j.invariant.2 (array-write-bytes-2 c)
+          c.joined_entry-e.ensures,
     )
 
 returns : tie.Need-returns invariant_loop decreases_loop
 returns c =
-    let l = c.before in
-    entries_all _ _ l.before.requires l.loop.j l.loop.invariant.2 (omega arith)
+    entries_all _ _ c.requires c.loop-j.j c.loop-j.invariant.2 (omega arith)
 
-pub entries-spec : {M : Type 1} → statement M
-entries-spec =
+pub entries_spec : {M : Type 1} → statement M
+entries_spec =
     tie.close
     (tie.spec
     invariant_loop

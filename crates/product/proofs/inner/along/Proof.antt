@@ -10,98 +10,84 @@ use native.Mathlib.Omega.{arith}
 use Rattle.product.proofs.inner.along.Statement.{statement}
 use Rattle.product.proofs.inner.along.Tie as tie
 
-abbrev invariant_loop : tie.invariant_loop
+abbrev invariant_loop : tie.invariant-loop-k
 invariant_loop near far starts c states inputs chain xs₀ ys₀ d₀ k₀ xs ys d k =
     (k ≤ pairs c.states) × ((w : Direction) → near ≡ near_ends w c → far ≡ far_ends w c → Before c w starts k d xs ys)
 
-abbrev decreases_loop : tie.decreases_loop
+abbrev decreases_loop : tie.decreases-loop-k
 decreases_loop near far starts c states inputs chain xs₀ ys₀ d₀ k₀ xs ys d k = suc max_side - k
 
-by-key-requires : tie.Need-by-key-requires invariant_loop decreases_loop
+by-key-requires : tie.Need-by_key-chain-requires invariant_loop decreases_loop
 by-key-requires c κs = rw c.requires.near_is (near_keys _ c.requires.sound c.requires.d)
 
-first-edges-requires : tie.Need-first-edges-requires invariant_loop decreases_loop
-first-edges-requires c κs = (record { firsts = refl; seconds = refl }, c.before.before.before.before.before.requires.sound.states_high)
+first-edges-requires : tie.Need-first_edges-requires invariant_loop decreases_loop
+first-edges-requires c κs = (record { firsts = refl; seconds = refl }, c.requires.sound.states_high)
 
-start-square-requires : tie.Need-start-square-requires invariant_loop decreases_loop
-start-square-requires c κs = c.before.before.before.before.before.before.requires.sound.states_high
+start-square-requires : tie.Need-start_square-d-requires invariant_loop decreases_loop
+start-square-requires c κs = c.requires.sound.states_high
 
-loop-holds : tie.Need-loop-init invariant_loop decreases_loop
+loop-holds : tie.Need-loop-k-init invariant_loop decreases_loop
 loop-holds c =
-    let t = c.before.before.before.before.before.before in
-    let sound = t.before.requires.sound in (
+    let sound = c.requires.sound in (
       omega arith,
       λ w n f.
-          before_start _ w _ sound c.start-square.ensures (arrays_of _ w sound _ _ _ n f t.by_key.ensures)
-          c.before.first-edges.ensures,
+          before_start _ w _ sound c.start_square-d.ensures (arrays_of _ w sound _ _ _ n f c.by_key-chain.ensures)
+          c.first_edges.ensures,
     )
-
--- the chain and the start of the call, seen from the loop
-abbrev chained : tie.At-loop invariant_loop decreases_loop → tie.After-by-key invariant_loop decreases_loop
-chained l = l.before.before.before.before.before.before.before
-
-abbrev start : tie.At-loop invariant_loop decreases_loop → tie.Start invariant_loop decreases_loop
-start l = l.before.before.before.before.before.before.before.before
 
 round-requires : tie.Need-round-requires invariant_loop decreases_loop
 round-requires c κs =
-    let l = c.before.before.before.before.before.before.before.before in
-    let p = (start l).requires in
+    let p = c.requires in
     record {
       c = _;
       d = p.d;
-      starts = (start l).args.starts;
-      arrays = arrays_of _ p.d p.sound _ _ _ p.near_is p.far_is (chained l).by_key.ensures;
+      starts = c.args.starts;
+      arrays = arrays_of _ p.d p.sound _ _ _ p.near_is p.far_is c.by_key-chain.ensures;
       states_is = refl;
-      before = l.loop.invariant.1 p.d p.near_is p.far_is;
-      level = omega (arith, l.loop.invariant.0, pairs_high _ p.sound.states_high);
+      before = c.loop-k.invariant.1 p.d p.near_is p.far_is;
+      level = omega (arith, c.loop-k.invariant.0, pairs_high _ p.sound.states_high);
     }
-
--- the loop, seen from the end of a round
-abbrev turn : tie.After-round invariant_loop decreases_loop → tie.At-loop invariant_loop decreases_loop
-turn c = c.before.before.before.before.before.before.before.before.before
 
 -- what a round has done, in the direction w
 rounded :
-    (c : tie.After-round invariant_loop decreases_loop) (w : Direction) → (start (turn c)).args.near.now ≡ near_ends w (start (turn c)).args.t1 →
-    (start (turn c)).args.far.now ≡ far_ends w (start (turn c)).args.t1 →
-    Rounded (start (turn c)).args.t1 w (start (turn c)).args.starts (turn c).loop.k c.round.new.1.1.1.1.1.0
+    (c : tie.After-round invariant_loop decreases_loop) (w : Direction) → c.args.near.now ≡ near_ends w c.args.t1 →
+    c.args.far.now ≡ far_ends w c.args.t1 →
+    Rounded c.args.t1 w c.args.starts c.loop-k.k c.round.new.1.1.1.1.1.0
     c.round.new.1.1.1.1.1.1.0 c.round.new.1.1.1.1.1.1.1.0 c.round.result
 rounded c w n f =
-    let sound = (start (turn c)).pre.sound in
-    c.round.ensures _ w _ (arrays_of _ w sound _ _ _ n f (chained (turn c)).by_key.ensures) refl ((turn c).loop.invariant.1 w n f)
+    let sound = c.pre.sound in
+    c.round.ensures _ w _ (arrays_of _ w sound _ _ _ n f c.by_key-chain.ensures) refl (c.loop-k.invariant.1 w n f)
 
 -- a round that changed something
-low : (c : tie.Then1 invariant_loop decreases_loop) → (turn c.before).loop.k < pairs (start (turn c.before)).args.t1.states
+low : (c : tie.Then-round invariant_loop decreases_loop) → c.loop-k.k < pairs c.args.t1.states
 low c =
-    let p = (start (turn c.before)).pre in
+    let p = c.pre in
     let r = rounded c.before p.d p.near_is p.far_is in
-    changed_low _ _ _ p.sound r.after (r.changed.yes' c.if1.true)
+    changed_low _ _ _ p.sound r.after (r.changed.yes' c.if-round.true)
 
-high : (c : tie.Then1 invariant_loop decreases_loop) → pairs (start (turn c.before)).args.t1.states ≤ max_side
-high c = pairs_high _ (start (turn c.before)).pre.sound.states_high
+high : (c : tie.Then-round invariant_loop decreases_loop) → pairs c.args.t1.states ≤ max_side
+high c = pairs_high _ c.pre.sound.states_high
 
-add-k : tie.Need-overflow-add-k invariant_loop decreases_loop
+add-k : tie.Need-overflow_add-k invariant_loop decreases_loop
 add-k c = omega (arith, low c, high c)
 
-loop-less : tie.Need-loop-smaller invariant_loop decreases_loop
+loop-less : tie.Need-loop-k-smaller invariant_loop decreases_loop
 loop-less c = omega (arith, low c, high c)
 
-loop-again : tie.Need-loop-preserved invariant_loop decreases_loop
+loop-again : tie.Need-loop-k-preserved invariant_loop decreases_loop
 loop-again c = (
   omega (arith, low c),
   λ w n f.
-      before_next _ _ _ (start (turn c.before)).pre.sound (omega (arith, low c, high c)) (rounded c.before w n f).after,
+      before_next _ _ _ c.pre.sound (omega (arith, low c, high c)) (rounded c.before w n f).after,
 )
 
-returns : tie.Need-returns invariant_loop decreases_loop
+returns : tie.Need-returns-else-round invariant_loop decreases_loop
 returns c = λ w n f.
     let r = rounded c.before w n f in
-    let l = turn c.before in
-    depths_found _ _ _ (start l).pre.sound l.loop.inv.0 r.after (r.changed.no' c.if1.false)
+    depths_found _ _ _ c.pre.sound c.loop-k.inv.0 r.after (r.changed.no' c.if-round.false)
 
-pub along-spec : {M : Type 1} → statement M
-along-spec =
+pub along_spec : {M : Type 1} → statement M
+along_spec =
     tie.close
     (tie.spec
     invariant_loop

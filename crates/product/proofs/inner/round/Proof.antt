@@ -12,171 +12,157 @@ use native.Mathlib.Omega.{arith}
 use Rattle.product.proofs.inner.round.Statement.{statement}
 use Rattle.product.proofs.inner.round.Tie as tie
 
-abbrev invariant_loop : tie.invariant_loop
+abbrev invariant_loop : tie.invariant-loop-a
 invariant_loop last previous output far states d₀ xs₀ ys₀ k end changed₀ a₀ d xs ys changed a =
     (a ≤ end) ×
     ((c : Coder) (way : Direction) (starts : ℕ) → (arrays : ArraysOf c way last previous output far) → states ≡ c.states →
     (low : suc k < endless) → Before c way starts k d₀ xs₀ ys₀ → InRound c way starts arrays.sound k low a d xs ys changed)
 
-abbrev decreases_loop : tie.decreases_loop
+abbrev decreases_loop : tie.decreases-loop-a
 decreases_loop last previous output far states d₀ xs₀ ys₀ k end changed₀ a₀ d xs ys changed a = end - a
 
-mul-end : tie.Need-overflow-mul-end invariant_loop decreases_loop
+mul-end : tie.Need-overflow_mul-end invariant_loop decreases_loop
 mul-end c = omega (arith, c.requires.states_is, c.requires.arrays.sound.states_high)
 
-loop-holds : tie.Need-loop-init invariant_loop decreases_loop
+loop-holds : tie.Need-loop-a-init invariant_loop decreases_loop
 loop-holds c = (omega arith, λ m way starts arrays e low b. round_start m way starts arrays.sound _ low b)
 
 -- the place of the pair that a turn sees to is one of the 256
-inside : (i : tie.In-loop invariant_loop decreases_loop) → i.before.loop.a < 256
-inside i = let p = i.before.before.requires in omega (arith, p.states_is, p.arrays.sound.states_high)
+inside : (i : tie.In-loop-a invariant_loop decreases_loop) → i.loop-a.a < 256
+inside i = let p = i.requires in omega (arith, p.states_is, p.arrays.sound.states_high)
 
-add_a : tie.Need-overflow-add-a invariant_loop decreases_loop
+add_a : tie.Need-overflow_add-a invariant_loop decreases_loop
 add_a c = search rules
 
-mul-if1 : tie.Need-overflow-mul-if1 invariant_loop decreases_loop
+mul-if1 : tie.Need-offset_bounds-d-u invariant_loop decreases_loop
 mul-if1 c = search rules
 
-index-1-if1 : tie.Need-bounds-1-if1 invariant_loop decreases_loop
+index-1-if1 : tie.Need-bounds-d-u invariant_loop decreases_loop
 index-1-if1 c = omega (arith, inside c)
 
-index-2-if1 : tie.Need-bounds-2-if1 invariant_loop decreases_loop
+index-2-if1 : tie.Need-bounds-d-v invariant_loop decreases_loop
 index-2-if1 c = search rules
 
-mul_wide : tie.Need-overflow-mul-wide invariant_loop decreases_loop
+mul_wide : tie.Need-offset_bounds-xs-place invariant_loop decreases_loop
 mul_wide c = search rules
 
-element-copy-out-wide : tie.Need-element-copy-out-wide invariant_loop decreases_loop
-element-copy-out-wide c = omega (arith, inside c.before.before)
+element-copy-out-wide : tie.Need-bounds-xs-place invariant_loop decreases_loop
+element-copy-out-wide c = omega (arith, inside c.before.before.before)
 
 wide-requires : tie.Need-wide-requires invariant_loop decreases_loop
 wide-requires c κs = search rules
 
-mul-wide-2 : tie.Need-overflow-mul-wide-2 invariant_loop decreases_loop
+mul-wide-2 : tie.Need-offset_bounds-ys-place invariant_loop decreases_loop
 mul-wide-2 c = search rules
 
-element-copy-out-wide-2 : tie.Need-element-copy-out-wide-2 invariant_loop decreases_loop
-element-copy-out-wide-2 c = omega (arith, inside c.before.before.before.before)
+element-copy-out-wide-2 : tie.Need-bounds-ys-place invariant_loop decreases_loop
+element-copy-out-wide-2 c = omega (arith, inside c.before.before.before.before.before.before)
 
-wide-requires-2 : tie.Need-wide-requires-2 invariant_loop decreases_loop
+wide-requires-2 : tie.Need-wide-requires-then-d-u invariant_loop decreases_loop
 wide-requires-2 c κs = search rules
 
--- the turn and its pair that stands, seen from where the edge kept for the pair has been read
-abbrev standing : tie.After-wide2 invariant_loop decreases_loop → tie.Then1 invariant_loop decreases_loop
-standing c = c.before.before.before.before
-
-abbrev turn : tie.After-wide2 invariant_loop decreases_loop → tie.In-loop invariant_loop decreases_loop
-turn c = (standing c).before.before
-
-abbrev start : tie.After-wide2 invariant_loop decreases_loop → tie.Start invariant_loop decreases_loop
-start c = (turn c).before.before
-
-module _ (c : tie.After-wide2 invariant_loop decreases_loop) (m : Coder) (way : Direction) (starts : ℕ)
+module _ (c : tie.After-wide-then-d-u invariant_loop decreases_loop) (m : Coder) (way : Direction) (starts : ℕ)
     (arrays : ArraysOf m way (start c).args.last.now (start c).args.previous.now (start c).args.output.now
     (start c).args.far.now)
     (states_is : (start c).args.states ≡ m.states) (low : suc (start c).args.k < endless)
     (before : Before m way starts (start c).args.k (start c).args.d.now (start c).args.xs.now (start c).args.ys.now) where
   -- what is sought from the edge kept for the pair on
   seeking :
-      Seeking m way (Above (turn c).before.loop.d (start c).args.k) ((turn c).before.loop.a / 16) ((turn c).before.loop.a % 16)
-      c.before.before.wide.result c.wide2.result
+      Seeking m way (Above (turn c).before.loop-a.d (start c).args.k) ((turn c).before.loop-a.a / 16) ((turn c).before.loop-a.a % 16)
+      c.before.before.wide.result c.wide-then-d-u.result
   seeking =
-      seeking_here _ _ _ _ _ low ((turn c).before.loop.invariant.1 m way starts arrays states_is low before) (inside (turn c))
-      (standing c).if1.true c.before.before.wide.ensures c.wide2.ensures
+      seeking_here _ _ _ _ _ low ((turn c).before.loop-a.invariant.1 m way starts arrays states_is low before) (inside (turn c))
+      (standing c).if-d-u.true c.before.before.wide.ensures c.wide-then-d-u.ensures
 
-seek-requires : tie.Need-seek-requires invariant_loop decreases_loop
+seek-requires : tie.Need-seek-e-requires invariant_loop decreases_loop
 seek-requires c κs =
-    let p = (start c.before).pre in
+    let p = c.pre in
     record {
       c = p.c;
       d = p.d;
       u = _;
       arrays = p.arrays;
-      seeking = seeking c.before _ _ _ p.arrays p.states_is p.level p.before;
+      seeking = seeking c _ _ _ p.arrays p.states_is p.level p.before;
     }
 
 -- the two numbers that `seek` gives, by the coder of the `requires`
-sought_high : (c : tie.After-seek invariant_loop decreases_loop) → (c.seek.result.x ≤ 256) × (c.seek.result.y ≤ 256)
+sought_high : (c : tie.After-seek-e invariant_loop decreases_loop) → (c.seek-e.result.x ≤ 256) × (c.seek-e.result.y ≤ 256)
 sought_high c =
-    let w = c.before.before in
-    let p = (start w).requires in
-    let s = (c.seek.ensures _ _ _ p.arrays (seeking w _ _ _ p.arrays p.states_is p.level p.before)).seeking in
+    let p = c.requires in
+    let s = (c.seek-e.ensures _ _ _ p.arrays (seeking c _ _ _ p.arrays p.states_is p.level p.before)).seeking in
     (s.on₁.high, s.on₂.high)
 
-cast-xs : tie.Need-overflow-cast-xs invariant_loop decreases_loop
+cast-xs : tie.Need-overflow_cast-xs invariant_loop decreases_loop
 cast-xs c = omega (arith, (sought_high c).0)
 
-mul-xs : tie.Need-overflow-mul-xs invariant_loop decreases_loop
+mul-xs : tie.Need-offset_bounds-xs-place-then-d-u invariant_loop decreases_loop
 mul-xs c = search rules
 
-element-write-xs : tie.Need-element-write-xs invariant_loop decreases_loop
-element-write-xs c = omega (arith, inside (turn c.before.before))
+element-write-xs : tie.Need-bounds-xs-place-then-d-u invariant_loop decreases_loop
+element-write-xs c = omega (arith, inside c.before.before.before.before.before.before.before.before.before)
 
-cast-ys : tie.Need-overflow-cast-ys invariant_loop decreases_loop
+cast-ys : tie.Need-overflow_cast-ys invariant_loop decreases_loop
 cast-ys c = omega (arith, (sought_high c).1)
 
-mul-ys : tie.Need-overflow-mul-ys invariant_loop decreases_loop
+mul-ys : tie.Need-offset_bounds-ys-place-then-d-u invariant_loop decreases_loop
 mul-ys c = search rules
 
-element-write-ys : tie.Need-element-write-ys invariant_loop decreases_loop
-element-write-ys c = omega (arith, inside (turn c.before.before))
+element-write-ys : tie.Need-bounds-ys-place-then-d-u invariant_loop decreases_loop
+element-write-ys c = omega (arith, inside c.before.before.before.before.before.before.before.before.before)
 
-add-d : tie.Need-overflow-add-d invariant_loop decreases_loop
-add-d c = omega (arith, (start c.before.before.before).pre.level)
+add-d : tie.Need-overflow_add-d invariant_loop decreases_loop
+add-d c = omega (arith, c.pre.level)
 
-mul-d : tie.Need-overflow-mul-d invariant_loop decreases_loop
+mul-d : tie.Need-offset_bounds-d-u-then-x-eq0 invariant_loop decreases_loop
 mul-d c = search rules
 
-index-1-d : tie.Need-bounds-1-d invariant_loop decreases_loop
-index-1-d c = omega (arith, inside (turn c.before.before.before))
+index-1-d : tie.Need-bounds-d-u-then-x-eq0 invariant_loop decreases_loop
+index-1-d c = omega (arith, inside c.before.before.before.before.before.before.before.before.before.before)
 
-index-2-d : tie.Need-bounds-2-d invariant_loop decreases_loop
+index-2-d : tie.Need-bounds-d-v-then-x-eq0 invariant_loop decreases_loop
 index-2-d c = search rules
 
-loop-less : tie.Need-loop-smaller invariant_loop decreases_loop
+loop-less : tie.Need-loop-a-smaller-then-x-eq0 invariant_loop decreases_loop
 loop-less c = omega arith
 
-loop-again : tie.Need-loop-preserved invariant_loop decreases_loop
+loop-again : tie.Need-loop-a-preserved-then-x-eq0 invariant_loop decreases_loop
 loop-again c = (
   omega arith,
   λ m way starts arrays e low b.
-      let w = c.before.before.before in
-      let found = c.before.seek.ensures m way _ arrays (seeking w m way starts arrays e low b) in
-      round_falls _ _ _ _ _ low ((turn w).before.loop.invariant.1 m way starts arrays e low b) (inside (turn w)) (standing w).if1.true found
-      c.if2.true,
+      let found = c.seek-e.ensures m way _ arrays (seeking c m way starts arrays e low b) in
+      round_falls _ _ _ _ _ low (c.loop-a.invariant.1 m way starts arrays e low b) (inside c.before.before.before.before.before.before.before.before.before.before) c.if-d-u.true found
+      c.if-x-eq0.true,
 )
 
-loop-less-2 : tie.Need-loop-smaller-2 invariant_loop decreases_loop
+loop-less-2 : tie.Need-loop-a-smaller-else-x-eq0 invariant_loop decreases_loop
 loop-less-2 c = omega arith
 
-loop-again-2 : tie.Need-loop-preserved-2 invariant_loop decreases_loop
+loop-again-2 : tie.Need-loop-a-preserved-else-x-eq0 invariant_loop decreases_loop
 loop-again-2 c = (
   omega arith,
   λ m way starts arrays e low b.
-      let w = c.before.before.before in
-      let found = c.before.seek.ensures m way _ arrays (seeking w m way starts arrays e low b) in
-      round_stands _ _ _ _ _ low ((turn w).before.loop.invariant.1 m way starts arrays e low b) (inside (turn w)) (standing w).if1.true found
-      (omega (arith, c.if2.false)),
+      let found = c.seek-e.ensures m way _ arrays (seeking c m way starts arrays e low b) in
+      round_stands _ _ _ _ _ low (c.loop-a.invariant.1 m way starts arrays e low b) (inside c.before.before.before.before.before.before.before.before.before.before) c.if-d-u.true found
+      (omega (arith, c.if-x-eq0.false)),
 )
 
-loop-less-3 : tie.Need-loop-smaller-3 invariant_loop decreases_loop
+loop-less-3 : tie.Need-loop-a-smaller invariant_loop decreases_loop
 loop-less-3 c = omega arith
 
-loop-again-3 : tie.Need-loop-preserved-3 invariant_loop decreases_loop
+loop-again-3 : tie.Need-loop-a-preserved invariant_loop decreases_loop
 loop-again-3 c = (
   omega arith,
   λ m way starts arrays e low b.
-      let i = c.before.before in
-      round_fallen _ _ _ _ _ low (i.before.loop.invariant.1 m way starts arrays e low b) (inside i) c.if1.false,
+      round_fallen _ _ _ _ _ low (c.loop-a.invariant.1 m way starts arrays e low b) (inside c.before.before) c.if-d-u.false,
 )
 
 returns : tie.Need-returns invariant_loop decreases_loop
 returns c = λ m way starts arrays e b.
-    let low = c.before.before.requires.level in
-    round_end _ _ _ _ _ low (c.before.loop.invariant.1 m way starts arrays e low b) (omega (arith, e))
+    let low = c.requires.level in
+    round_end _ _ _ _ _ low (c.loop-a.invariant.1 m way starts arrays e low b) (omega (arith, e))
 
-pub round-spec : {M : Type 1} → statement M
-round-spec =
+pub round_spec : {M : Type 1} → statement M
+round_spec =
     tie.close
     (tie.spec
     invariant_loop

@@ -11,59 +11,58 @@ use Rattle.coder.proofs.Accepted.{accepted}
 use Rattle.running.proofs.inner.refusal.Statement.{statement}
 use Rattle.running.proofs.inner.refusal.Tie as tie
 
-refusal-requires : tie.Need-refusal-requires
+refusal-requires : tie.Need-refusal-k-requires
 refusal-requires c κs = search rules
 
-returns : tie.Need-returns
+returns : tie.Need-returns-then-k-ne0
 unfolding run_refusal
-returns c = refused_first _ _ c.before.refusal.ensures c.if1.true
+returns c = refused_first _ _ c.refusal-k.ensures c.if-k-ne0.true
 
-file_accepted : (c : tie.Else1) → file_refusal c.before.before.before.before.args.file.now ≡ 0
-file_accepted c = via c.before.refusal.ensures c.if1.false
+file_accepted : (c : tie.Else-k-ne0) → file_refusal c.args.file.now ≡ 0
+file_accepted c = via c.refusal-k.ensures c.if-k-ne0.false
 
 by_letters :
-    (c : tie.After-letters-below) →
-    let a = c.before.before.before.before.before.before.before.before.before.args in
-    run_refusal a.file.now a.start a.input.now a.fits ≡ refuse (not c.letters_below_lem.result) 12 0
+    (c : tie.After-letters_below) →
+    let a = c.args in
+    run_refusal a.file.now a.start a.input.now a.fits ≡ refuse (not c.letters_below.result) 12 0
 unfolding run_refusal
 by_letters c =
-    let b = c.before.before.before.before in
     rw (
-      file_accepted b.before,
-      ← b.byte.ensures.0,
-      ← c.before.byte2.ensures.0,
-      c.before.before.if3.true,
-      ← c.letters_below_lem.ensures,
+      file_accepted c.before.before.before.before.before,
+      ← c.byte-states.ensures.0,
+      ← c.byte.ensures.0,
+      c.if-fits.true,
+      ← c.letters_below.ensures,
     ) (search tests)
 
-byte-requires : tie.Need-byte-requires
+byte-requires : tie.Need-byte-states-requires
 byte-requires c κs = omega (arith, accepted _ (file_accepted c))
 
-byte-requires-2 : tie.Need-byte-requires-2
+byte-requires-2 : tie.Need-byte-requires
 byte-requires-2 c κs = omega (arith, accepted _ (file_accepted c.before.before.before))
 
-letters-below-requires : tie.Need-letters-below-requires
+letters-below-requires : tie.Need-letters_below-requires
 letters-below-requires c κs = search rules
 
-returns-2 : tie.Need-returns-2
+returns-2 : tie.Need-returns-then-letters_below
 unfolding run_refusal
-returns-2 c = rw (by_letters c.before, c.if4.true) (search tests)
+returns-2 c = rw (by_letters c.before, c.if-letters_below.true) (search tests)
 
-returns-3 : tie.Need-returns-3
+returns-3 : tie.Need-returns-else-letters_below
 unfolding run_refusal
-returns-3 c = rw (by_letters c.before, c.if4.false) (search tests)
+returns-3 c = rw (by_letters c.before, c.if-letters_below.false) (search tests)
 
-returns-4 : tie.Need-returns-4
+returns-4 : tie.Need-returns-else-fits
 unfolding run_refusal
 returns-4 c =
-    rw (file_accepted c.before.before.before, ← c.before.before.byte.ensures.0, c.if3.false) (search tests)
+    rw (file_accepted c.before.before.before, ← c.byte-states.ensures.0, c.if-fits.false) (search tests)
 
-returns-5 : tie.Need-returns-5
+returns-5 : tie.Need-returns-else-start-states
 unfolding run_refusal
-returns-5 c = rw (file_accepted c.before.before, ← c.before.byte.ensures.0) (search tests)
+returns-5 c = rw (file_accepted c.before.before, ← c.byte-states.ensures.0) (search tests)
 
-pub refusal-spec : {M : Type 1} → statement M
-refusal-spec =
+pub refusal_spec : {M : Type 1} → statement M
+refusal_spec =
     tie.close
     (tie.spec
     refusal-requires

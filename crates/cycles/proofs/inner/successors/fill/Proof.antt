@@ -8,32 +8,32 @@ use Rattle.cycles.proofs.Filling.{place_of, GivesAt, steps_filled}
 use Rattle.cycles.proofs.inner.successors.fill.Statement.{statement}
 use Rattle.cycles.proofs.inner.successors.fill.Tie as tie
 
-abbrev invariant_loop : tie.invariant_loop
+abbrev invariant_loop : tie.invariant-loop-k
 invariant_loop next output to states inputs words₀ k₀ words k =
     (k ≤ 256 * states) × StepsTaken (place_of next) (GivesAt output to inputs) 4096 k words
 
-abbrev decreases_loop : tie.decreases_loop
+abbrev decreases_loop : tie.decreases-loop-k
 decreases_loop next output to states inputs words₀ k₀ words k = 256 * states - k
 
-none-requires : tie.Need-none-requires invariant_loop decreases_loop
+none-requires : tie.Need-none-words-requires invariant_loop decreases_loop
 none-requires c κs = search rules
 
-loop-holds : tie.Need-loop-init invariant_loop decreases_loop
-loop-holds c = let e = c.«none».ensures in (omega arith, steps_none e.0 e.1)
+loop-holds : tie.Need-loop-k-init invariant_loop decreases_loop
+loop-holds c = let e = c.none-words.ensures in (omega arith, steps_none e.0 e.1)
 
-mul-loop : tie.Need-overflow-mul-loop invariant_loop decreases_loop
+mul-loop : tie.Need-overflow_mul-states invariant_loop decreases_loop
 mul-loop c = search rules
 
-mul-a : tie.Need-overflow-mul-a invariant_loop decreases_loop
+mul-a : tie.Need-overflow_mul-a invariant_loop decreases_loop
 mul-a c = search rules
 
-add_a : tie.Need-overflow-add-a invariant_loop decreases_loop
+add_a : tie.Need-overflow_add-a invariant_loop decreases_loop
 add_a c = search rules
 
-mul_at : tie.Need-overflow-mul-at invariant_loop decreases_loop
+mul_at : tie.Need-overflow_mul-at invariant_loop decreases_loop
 mul_at c = search rules
 
-element-copy-out-number : tie.Need-element-copy-out-number invariant_loop decreases_loop
+element-copy-out-number : tie.Need-bounds-next-p invariant_loop decreases_loop
 element-copy-out-number c = search rules
 
 number-requires : tie.Need-number-requires invariant_loop decreases_loop
@@ -42,48 +42,47 @@ number-requires c κs = search rules
 -- the place of the step's word
 at_low :
     (c : tie.After-number invariant_loop decreases_loop) →
-    place_of c.before.before.before.before.before.args.next.now c.before.before.before.loop.k < 4096
+    place_of c.args.next.now c.loop-k.k < 4096
 at_low c =
-    let k = c.before.before.before.loop.k in
-    omega (arith, c.before.before.before.before.before.requires.next_high (k / 16))
+    let k = c.loop-k.k in
+    omega (arith, c.requires.next_high (k / 16))
 
-add_at : tie.Need-overflow-add-at invariant_loop decreases_loop
+add_at : tie.Need-overflow_add-at invariant_loop decreases_loop
 add_at c = search rules
 
-mul_words : tie.Need-overflow-mul-words invariant_loop decreases_loop
+mul_words : tie.Need-offset_bounds-words-at invariant_loop decreases_loop
 mul_words c = search rules
 
-array-read-words : tie.Need-array-read-words invariant_loop decreases_loop
+array-read-words : tie.Need-bounds-words-at invariant_loop decreases_loop
 array-read-words c = rw c.number.ensures.0 (at_low c)
 
 given-requires : tie.Need-given-requires invariant_loop decreases_loop
 given-requires c κs =
-    let p = c.before.before.before.before.before.requires in
+    let p = c.requires in
     (omega (arith, p.states_high), omega arith, p.output_high, p.words)
 
-mul-words-2 : tie.Need-overflow-mul-words-2 invariant_loop decreases_loop
+mul-words-2 : tie.Need-offset_bounds-words-at-in-loop-k invariant_loop decreases_loop
 mul-words-2 c = search rules
 
-array-write-words : tie.Need-array-write-words invariant_loop decreases_loop
-array-write-words c = rw c.before.number.ensures.0 (at_low c.before)
+array-write-words : tie.Need-bounds-words-at-in-loop-k invariant_loop decreases_loop
+array-write-words c = rw c.number.ensures.0 (at_low c.before)
 
-add-k : tie.Need-overflow-add-k invariant_loop decreases_loop
+add-k : tie.Need-overflow_add-k invariant_loop decreases_loop
 add-k c = search rules
 
-loop-less : tie.Need-loop-smaller invariant_loop decreases_loop
+loop-less : tie.Need-loop-k-smaller invariant_loop decreases_loop
 loop-less c = search rules
 
-loop-again : tie.Need-loop-preserved invariant_loop decreases_loop
+loop-again : tie.Need-loop-k-preserved invariant_loop decreases_loop
 loop-again c =
-    let i = c.before.before.before.before.loop in
-    (omega arith, rw c.before.number.ensures.0 (steps_more i.invariant.1 (at_low c.before) c.given.ensures))
+    let i = c.loop-k in
+    (omega arith, rw c.number.ensures.0 (steps_more i.invariant.1 (at_low c.before) c.given.ensures))
 
 returns : tie.Need-returns invariant_loop decreases_loop
 returns c =
-    let i = c.before.loop in
-    let a = c.before.before.before in
-    let e : i.k ≡ 256 * a.args.states = omega arith in
-    steps_filled a.requires.states_high a.requires.next_high (rw e at i.invariant.1)
+    let i = c.loop-k in
+    let e : i.k ≡ 256 * c.args.states = omega arith in
+    steps_filled c.requires.states_high c.requires.next_high (rw e at i.invariant.1)
 
 pub fill_spec : {M : Type 1} → statement M
 fill_spec =

@@ -7,31 +7,30 @@ use Rattle.decoder_refusal.specs.Refusal.{limits_refusal}
 use Rattle.decoder_refusal.proofs.inner.refusal.limits.Statement.{statement}
 use Rattle.decoder_refusal.proofs.inner.refusal.limits.Tie as tie
 
-refusal-requires : tie.Need-refusal-requires
+refusal-requires : tie.Need-refusal-k-requires
 refusal-requires c κs = search rules
 
-returns : tie.Need-returns
+returns : tie.Need-returns-then-k-ne0
 unfolding limits_refusal
-returns c = refused_first _ _ c.before.refusal.ensures c.if1.true
+returns c = refused_first _ _ c.refusal-k.ensures c.if-k-ne0.true
 
-file_accepted : (c : tie.Else1) → file_refusal c.before.before.before.args.file.now ≡ 0
-file_accepted c = via c.before.refusal.ensures c.if1.false
+file_accepted : (c : tie.Else-k-ne0) → file_refusal c.args.file.now ≡ 0
+file_accepted c = via c.refusal-k.ensures c.if-k-ne0.false
 
-sides-requires : tie.Need-sides-requires
+sides-requires : tie.Need-sides-j-requires
 sides-requires c κs = search rules
 
-returns-2 : tie.Need-returns-2
+returns-2 : tie.Need-returns-then-j-ne0
 unfolding limits_refusal
-returns-2 c = rw (file_accepted c.before.before) (refused_first _ _ c.before.sides.ensures c.if2.true)
+returns-2 c = rw (file_accepted c.before.before) (refused_first _ _ c.sides-j.ensures c.if-j-ne0.true)
 
 settle-requires : tie.Need-settle-requires
 settle-requires c κs = search rules
 
-returns-3 : tie.Need-returns-3
+returns-3 : tie.Need-returns
 unfolding limits_refusal
 returns-3 c =
-    let s = c.before in
-    rw (file_accepted s.before.before, ← s.before.sides.ensures, s.if2.false) c.settle.ensures
+    rw (file_accepted c.before.before.before, ← c.sides-j.ensures, c.if-j-ne0.false) c.settle.ensures
 
-pub limits-spec : {M : Type 1} → statement M
-limits-spec = tie.close (tie.spec refusal-requires returns sides-requires returns-2 settle-requires returns-3)
+pub limits_spec : {M : Type 1} → statement M
+limits_spec = tie.close (tie.spec refusal-requires returns sides-requires returns-2 settle-requires returns-3)

@@ -9,49 +9,47 @@ use Rattle.decoder_refusal.proofs.Accepting.{limits_accepted}
 use Rattle.decoder_refusal.proofs.inner.refusal.string.Statement.{statement}
 use Rattle.decoder_refusal.proofs.inner.refusal.string.Tie as tie
 
-limits-requires : tie.Need-limits-requires
+limits-requires : tie.Need-limits-k-requires
 limits-requires c κs = search rules
 
-returns : tie.Need-returns
+returns : tie.Need-returns-then-k-ne0
 unfolding string_refusal
-returns c = refused_first _ _ c.before.limits.ensures c.if1.true
+returns c = refused_first _ _ c.limits-k.ensures c.if-k-ne0.true
 
-not_refused : (c : tie.Else1) → let a = c.before.before.before.before.args in limits_refusal a.file.now a.w ≡ 0
-not_refused c = via c.before.limits.ensures c.if1.false
+not_refused : (c : tie.Else-k-ne0) → let a = c.before.before.before.before.args in limits_refusal a.file.now a.w ≡ 0
+not_refused c = via c.before.limits-k.ensures c.if-k-ne0.false
 
-places-requires : tie.Need-places-requires
+places-requires : tie.Need-places-m-requires
 places-requires c κs = (limits_accepted _ _ (not_refused c)).small
 
-returns-2 : tie.Need-returns-2
+returns-2 : tie.Need-returns-then-room-m
 unfolding string_refusal
-returns-2 c = rw (not_refused c.before.before, ← c.before.places.ensures) (search tests)
+returns-2 c = rw (not_refused c.before.before, ← c.places-m.ensures) (search tests)
 
 byte-requires : tie.Need-byte-requires
 byte-requires c κs = omega (arith, accepted _ (limits_accepted _ _ (not_refused c.before.before.before)).file)
 
-letters-below-requires : tie.Need-letters-below-requires
+letters-below-requires : tie.Need-letters_below-requires
 letters-below-requires c κs = search rules
 
-returns-3 : tie.Need-returns-3
+returns-3 : tie.Need-returns-then-letters_below
 unfolding string_refusal
 returns-3 c =
-    let b = c.before.before.before in
-    rw (not_refused b.before.before.before, ← b.before.before.places.ensures, b.if3.true)
-    (rw (← c.before.before.byte.ensures.0, via c.before.letters_below_lem.ensures c.if4.true) (search tests))
+    rw (not_refused c.before.before.before.before.before.before, ← c.places-m.ensures, c.if-others.true)
+    (rw (← c.byte.ensures.0, via c.letters_below.ensures c.if-letters_below.true) (search tests))
 
-returns-4 : tie.Need-returns-4
+returns-4 : tie.Need-returns-else-letters_below
 unfolding string_refusal
 returns-4 c =
-    let b = c.before.before.before in
-    rw (not_refused b.before.before.before, ← b.before.before.places.ensures, b.if3.true)
-    (rw (← c.before.before.byte.ensures.0, via c.before.letters_below_lem.ensures c.if4.false) (search tests))
+    rw (not_refused c.before.before.before.before.before.before, ← c.places-m.ensures, c.if-others.true)
+    (rw (← c.byte.ensures.0, via c.letters_below.ensures c.if-letters_below.false) (search tests))
 
-returns-5 : tie.Need-returns-5
+returns-5 : tie.Need-returns-else-others
 unfolding string_refusal
-returns-5 c = rw (not_refused c.before.before.before, ← c.before.before.places.ensures, c.if3.false) (search tests)
+returns-5 c = rw (not_refused c.before.before.before, ← c.places-m.ensures, c.if-others.false) (search tests)
 
-pub string-spec : {M : Type 1} → statement M
-string-spec =
+pub string_spec : {M : Type 1} → statement M
+string_spec =
     tie.close
     (tie.spec
     limits-requires

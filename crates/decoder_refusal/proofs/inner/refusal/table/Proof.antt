@@ -18,80 +18,74 @@ use Rattle.decoder_refusal.proofs.Accepting.{limits_accepted, table_allowed_lem,
 use Rattle.decoder_refusal.proofs.inner.refusal.table.Statement.{statement}
 use Rattle.decoder_refusal.proofs.inner.refusal.table.Tie as tie
 
-limits-requires : tie.Need-limits-requires
+limits-requires : tie.Need-limits-k-requires
 limits-requires c κs = search rules
 
-returns : tie.Need-returns
+returns : tie.Need-returns-then-k-ne0
 unfolding table_refusal
-returns c = refused_first _ _ c.before.limits.ensures c.if1.true
+returns c = refused_first _ _ c.limits-k.ensures c.if-k-ne0.true
 
-not_refused : (c : tie.Else1) → let a = c.before.before.before.args in limits_refusal a.file.now a.w ≡ 0
-not_refused c = via c.before.limits.ensures c.if1.false
+not_refused : (c : tie.Else-k-ne0) → let a = c.before.before.before.args in limits_refusal a.file.now a.w ≡ 0
+not_refused c = via c.before.limits-k.ensures c.if-k-ne0.false
 
-byte-requires : tie.Need-byte-requires
+byte-requires : tie.Need-byte-outputs-requires
 byte-requires c κs = omega (arith, accepted _ (limits_accepted _ _ (not_refused c)).file)
 
-letters-requires : tie.Need-letters-requires
+letters-requires : tie.Need-letters-n-requires
 letters-requires c κs = (limits_accepted _ _ (not_refused c.before)).small
 
 allowed-requires : tie.Need-allowed-requires
 allowed-requires c κs = search rules
 
--- the refusals 1 to 8 do not apply, from the call of `allowed` on
-abbrev past_limits : tie.After-allowed → tie.Else1
-past_limits c = c.before.before.before
-
 -- what the cases are asked
 asked :
     (c : tie.After-allowed) →
-    let a = (past_limits c).before.before.before.args in table_allowed (outputs_of a.file.now) (size a.w) ≡ c.allowed.result
-asked c = sym (c.allowed.ensures ∙ ap₂ table_allowed c.before.before.byte.ensures.0 c.before.letters.ensures)
+    let a = c.args in table_allowed (outputs_of a.file.now) (size a.w) ≡ c.allowed.result
+asked c = sym (c.allowed.ensures ∙ ap₂ table_allowed c.byte-outputs.ensures.0 c.letters-n.ensures)
 
-returns-2 : tie.Need-returns-2
+returns-2 : tie.Need-returns-then-not-allowed
 returns-2 c =
-    sym (table_by_cases _ _ false _ (not_refused (past_limits c.before)) (asked c.before ∙ not-true _ c.if2.true))
+    sym (table_by_cases _ _ false _ (not_refused c.before.before.before.before) (asked c.before ∙ not-true _ c.if-not-allowed.true))
 
 is_allowed :
-    (c : tie.Else2) →
-    let a = (past_limits c.before).before.before.before.args in table_allowed (outputs_of a.file.now) (size a.w) ≡ true
-is_allowed c = asked c.before ∙ not-false _ c.if2.false
+    (c : tie.Else-not-allowed) →
+    let a = c.args in table_allowed (outputs_of a.file.now) (size a.w) ≡ true
+is_allowed c = asked c.before ∙ not-false _ c.if-not-allowed.false
 
 size-requires : tie.Need-size-requires
 size-requires c κs =
-    let k = c.before in
-    let z = not_refused (past_limits k) in (
+    let z = not_refused c.before.before.before.before in (
       omega (arith, accepted _ (limits_accepted _ _ z).file),
-      rw (k.before.before.byte.ensures.0, k.before.letters.ensures)
+      rw (c.byte-outputs.ensures.0, c.letters-n.ensures)
           (leb-true _ _ (sym (table_allowed_lem _ _ z) ∙ is_allowed c)),
     )
 
 by_room :
     (c : tie.After-size) →
-    let a = (past_limits c.before.before).before.before.before.args in
+    let a = c.args in
     table_refusal_in a.file.now a.w a.room a.others ≡ refuse (not (leb c.size.result a.room && a.others)) 11 0
 by_room c =
-    let k = c.before.before in
-    let a = (past_limits k).before.before.before.args in
+    let a = c.args in
     let m : c.size.result ≡ table_size (outputs_of a.file.now) a.w =
-    c.size.ensures ∙ ap₂ ◌^◌ k.before.before.byte.ensures.0 k.before.letters.ensures in
-    table_by_cases _ _ true _ (not_refused (past_limits k)) (is_allowed c.before)
+    c.size.ensures ∙ ap₂ ◌^◌ c.byte-outputs.ensures.0 c.letters-n.ensures in
+    table_by_cases _ _ true _ (not_refused c.before.before.before.before.before) (is_allowed c.before)
     ∙ ap (λ x. refuse (not (leb x a.room && a.others)) 11 0) (sym m)
 
-returns-3 : tie.Need-returns-3
+returns-3 : tie.Need-returns-then-room-size
 returns-3 c = rw (by_room c.before) (search tests)
 
 -- with room for the table, the other lent buffers decide
 by_others : {m room : ℕ} {others t : Bool} → m ≤ room → others ≡ t → refuse (not (leb m room && others)) 11 0 ≡ refuse (not t) 11 0
 by_others {m} {room} l e = rw (le-leb m room l, e)
 
-returns-4 : tie.Need-returns-4
-returns-4 c = sym (by_room c.before.before ∙ by_others c.before.if3.false c.if4.true)
+returns-4 : tie.Need-returns-then-others
+returns-4 c = sym (by_room c.before.before ∙ by_others c.if-room-size.false c.if-others.true)
 
-returns-5 : tie.Need-returns-5
-returns-5 c = sym (by_room c.before.before ∙ by_others c.before.if3.false c.if4.false)
+returns-5 : tie.Need-returns-else-others
+returns-5 c = sym (by_room c.before.before ∙ by_others c.if-room-size.false c.if-others.false)
 
-pub table-spec : {M : Type 1} → statement M
-table-spec =
+pub table_spec : {M : Type 1} → statement M
+table_spec =
     tie.close
     (tie.spec
     limits-requires

@@ -9,15 +9,15 @@ use Rattle.decoder_refusal.proofs.Accepting.{limits_accepted}
 use Rattle.decoder_refusal.proofs.inner.refusal.window.Statement.{statement}
 use Rattle.decoder_refusal.proofs.inner.refusal.window.Tie as tie
 
-limits-requires : tie.Need-limits-requires
+limits-requires : tie.Need-limits-k-requires
 limits-requires c κs = search rules
 
-returns : tie.Need-returns
+returns : tie.Need-returns-then-k-ne0
 unfolding window_refusal
-returns c = refused_first _ _ c.before.limits.ensures c.if1.true
+returns c = refused_first _ _ c.limits-k.ensures c.if-k-ne0.true
 
-not_refused : (c : tie.Else1) → let a = c.before.before.before.before.args in limits_refusal a.file.now a.w ≡ 0
-not_refused c = via c.before.limits.ensures c.if1.false
+not_refused : (c : tie.Else-k-ne0) → let a = c.before.before.before.before.args in limits_refusal a.file.now a.w ≡ 0
+not_refused c = via c.before.limits-k.ensures c.if-k-ne0.false
 
 letters-requires : tie.Need-letters-requires
 letters-requires c κs = (limits_accepted _ _ (not_refused c)).small
@@ -28,11 +28,10 @@ byte-requires c κs = omega (arith, accepted _ (limits_accepted _ _ (not_refused
 received-requires : tie.Need-received-requires
 received-requires c κs = search rules
 
-returns-2 : tie.Need-returns-2
+returns-2 : tie.Need-returns
 unfolding window_refusal
 returns-2 c =
-    let b = c.before in
-    rw (not_refused b.before.before, ← b.before.letters.ensures, ← b.byte.ensures.0) c.received.ensures
+    rw (not_refused c.before.before.before, ← c.letters.ensures, ← c.byte.ensures.0) c.received.ensures
 
-pub window-spec : {M : Type 1} → statement M
-window-spec = tie.close (tie.spec limits-requires returns letters-requires byte-requires received-requires returns-2)
+pub window_spec : {M : Type 1} → statement M
+window_spec = tie.close (tie.spec limits-requires returns letters-requires byte-requires received-requires returns-2)

@@ -12,52 +12,49 @@ abbrev pair : tie.Start → LoopedPair
 pair c = pair_of c.args.pair c.args.letters.now
 
 closes-requires : tie.Need-closes-requires
-closes-requires c κs = let a = c.before.requires in follow_asked a _ _ a.of.first a.of.second (omega arith)
+closes-requires c κs = let a = c.requires in follow_asked a _ _ a.of.first a.of.second (omega arith)
 
-add-follow : tie.Need-overflow-add-follow
+add-follow : tie.Need-overflow_add-lead_in
 add-follow c = search rules
 
-add-follow-2 : tie.Need-overflow-add-follow-2
+add-follow-2 : tie.Need-overflow_add-lead_in-then-closes
 add-follow-2 c = search rules
 
-follow-requires : tie.Need-follow-requires
-follow-requires c κs = let a = c.before.before.before.requires in follow_asked a _ _ a.of.first a.of.second (omega arith)
+follow-requires : tie.Need-follow-r-requires
+follow-requires c κs = let a = c.requires in follow_asked a _ _ a.of.first a.of.second (omega arith)
 
-add-closes : tie.Need-overflow-add-closes
+add-closes : tie.Need-overflow_add-back_loop
 add-closes c = search rules
 
-add-closes-2 : tie.Need-overflow-add-closes-2
+add-closes-2 : tie.Need-overflow_add-back_loop-then-r
 add-closes-2 c = search rules
 
-add-closes-3 : tie.Need-overflow-add-closes-3
+add-closes-3 : tie.Need-overflow_add-back_loop-then-r-2
 add-closes-3 c = search rules
 
-closes-requires-2 : tie.Need-closes-requires-2
+closes-requires-2 : tie.Need-closes-requires-then-r
 closes-requires-2 c κs =
-    let f = c.before in
-    let a = f.before.before.before.before.requires in
-    let z = followed_low a (f.follow.ensures a.c (pair f.before.before.before.before) a.of.tables) c.if2.true in
+    let a = c.requires in
+    let z = followed_low a (c.follow-r.ensures a.c (pair c.before.before.before.before.before) a.of.tables) c.if-r.true in
     follow_asked a _ _ (omega (arith, a.of.first)) (omega (arith, a.of.second)) (omega arith)
 
-returns : tie.Need-returns
+returns : tie.Need-returns-then-r
 returns c =
-    let f = c.before.before in
-    let p = pair f.before.before.before.before in
+    let p = pair c.before.before.before.before.before.before in
     λ d w.
-    parts_judged ((f.before.before.closes.ensures d p w.tables).yes' f.before.if1.true) (f.follow.ensures d p w.tables)
-    c.before.if2.true (c.closes2.ensures d p w.tables)
+    parts_judged ((c.closes.ensures d p w.tables).yes' c.if-closes.true) (c.follow-r.ensures d p w.tables)
+    c.if-r.true (c.closes-then-r.ensures d p w.tables)
 
-returns-2 : tie.Need-returns-2
+returns-2 : tie.Need-returns-else-r
 returns-2 c =
-    let f = c.before in
-    λ d w. judges_not (λ q. (f.follow.ensures d (pair f.before.before.before.before) w.tables).none c.if2.false _ _ q.between)
+    λ d w. judges_not (λ q. (c.follow-r.ensures d (pair c.before.before.before.before.before) w.tables).none c.if-r.false _ _ q.between)
 
-returns-3 : tie.Need-returns-3
+returns-3 : tie.Need-returns-else-closes
 returns-3 c =
-    λ d w. judges_not (λ q. (c.before.closes.ensures d (pair c.before.before.before) w.tables).no' c.if1.false q.back)
+    λ d w. judges_not (λ q. (c.closes.ensures d (pair c.before.before.before) w.tables).no' c.if-closes.false q.back)
 
-pub parts-spec : {M : Type 1} → statement M
-parts-spec =
+pub parts_spec : {M : Type 1} → statement M
+parts_spec =
     tie.close
     (tie.spec
     closes-requires

@@ -16,34 +16,34 @@ use Rattle.valid_pair.proofs.Following.{letter_first}
 use Rattle.valid_pair.proofs.inner.follow.valid.Statement.{statement}
 use Rattle.valid_pair.proofs.inner.follow.valid.Tie as tie
 
-add-mark : tie.Need-overflow-add-mark
+add-mark : tie.Need-overflow_add-mark
 add-mark c = search rules
 
 has-requires : tie.Need-has-requires
 has-requires c κs = search rules
 
-has-requires-2 : tie.Need-has-requires-2
+has-requires-2 : tie.Need-has-requires-then-has
 has-requires-2 c κs = search rules
 
-mul-byte : tie.Need-overflow-mul-byte
+mul-byte : tie.Need-overflow_mul-mark
 mul-byte c = search rules
 
 byte-requires : tie.Need-byte-requires
 byte-requires c κs = search rules
 
-mul-byte-2 : tie.Need-overflow-mul-byte-2
+mul-byte-2 : tie.Need-overflow_mul-mark-then-has-2
 mul-byte-2 c = search rules
 
-add-byte : tie.Need-overflow-add-byte
+add-byte : tie.Need-overflow_add-mark-then-has-2
 add-byte c = search rules
 
-byte-requires-2 : tie.Need-byte-requires-2
+byte-requires-2 : tie.Need-byte-requires-then-has-2
 byte-requires-2 c κs = search rules
 
 conflict-requires : tie.Need-conflict-requires
 conflict-requires c κs =
-    let a = c.before.before.before.before.before.before.before.before.requires in
-    (rw c.before.byte.ensures.0 (mark_low a _ (omega arith)), rw c.byte2.ensures.0 (mark_low a _ (omega arith)))
+    let a = c.requires in
+    (rw c.byte.ensures.0 (mark_low a _ (omega arith)), rw c.byte2.ensures.0 (mark_low a _ (omega arith)))
 
 parts-requires : tie.Need-parts-requires
 parts-requires c κs = search rules
@@ -56,45 +56,41 @@ setting c d = worded (machine_of_coder d) c.args.starts c.args.conflicts.now
 
 conflict_judged :
     (c : tie.After-conflict) →
-    let a = c.before.before.before.before.before.before.before.before.before in
-    let p = pair a in
-    Judges (Has (get_or a.args.conflicts.now (letter_at p first (mark p)) 0) (letter_at p second (mark p))) c.conflict.result
+    let p = pair c.before.before.before.before.before.before.before.before.before in
+    Judges (Has (get_or c.args.conflicts.now (letter_at p first (mark p)) 0) (letter_at p second (mark p))) c.conflict.result
 conflict_judged c =
     let p = pair c.before.before.before.before.before.before.before.before.before in
-    let e = letter_first p (mark p) _ c.before.before.byte.ensures.0 in
-    rw (e, c.before.byte2.ensures.0) at c.conflict.ensures
+    let e = letter_first p (mark p) _ c.byte.ensures.0 in
+    rw (e, c.byte2.ensures.0) at c.conflict.ensures
 
-returns : tie.Need-returns
+returns : tie.Need-returns-then-conflict
 returns c =
-    let k = c.before.before in
-    let f = k.before.before.before.before in
-    let a = f.before.before.before.before.before in
-    let p = pair a in
+    let p = pair c.before.before.before.before.before.before.before.before.before.before.before in
     λ d w.
     judges_map
-    (λ q. parts→valid (setting a d) p (record {
+    (λ q. parts→valid (setting c.before.before.before.before.before.before.before.before.before.before.before d) p (record {
       held = omega (arith, w.size);
       start = λ r. elim r [
-        | first ↦ (w.first, f.before.before.has.ensures.yes' f.before.if1.true)
-        | second ↦ (w.second, f.has2.ensures.yes' k.before.before.before.if2.true)
+        | first ↦ (w.first, c.has.ensures.yes' c.if-has.true)
+        | second ↦ (w.second, c.has-then-has.ensures.yes' c.if2.true)
       ];
-      conflict = (conflict_judged k).yes' c.before.if3.true;
+      conflict = (conflict_judged c.before.before).yes' c.if-conflict.true;
       parts = q;
     }))
-    (λ v. (valid→parts (setting a d) p v).parts)
+    (λ v. (valid→parts (setting c.before.before.before.before.before.before.before.before.before.before.before d) p v).parts)
     (c.parts.ensures d w)
 
-returns-2 : tie.Need-returns-2
-returns-2 c = λ d w. judges_not (λ v. (conflict_judged c.before).no' c.if3.false v.conflict)
+returns-2 : tie.Need-returns-else-conflict
+returns-2 c = λ d w. judges_not (λ v. (conflict_judged c.before).no' c.if-conflict.false v.conflict)
 
-returns-3 : tie.Need-returns-3
-returns-3 c = λ d w. judges_not (λ v. c.before.has2.ensures.no' c.if2.false (v.start second).1)
+returns-3 : tie.Need-returns-else-has-2
+returns-3 c = λ d w. judges_not (λ v. c.has-then-has.ensures.no' c.if2.false (v.start second).1)
 
-returns-4 : tie.Need-returns-4
-returns-4 c = λ d w. judges_not (λ v. c.before.has.ensures.no' c.if1.false (v.start first).1)
+returns-4 : tie.Need-returns-else-has
+returns-4 c = λ d w. judges_not (λ v. c.has.ensures.no' c.if-has.false (v.start first).1)
 
-pub valid-spec : {M : Type 1} → statement M
-valid-spec =
+pub valid_spec : {M : Type 1} → statement M
+valid_spec =
     tie.close
     (tie.spec
     add-mark

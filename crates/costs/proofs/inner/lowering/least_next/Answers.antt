@@ -1,0 +1,15 @@
+use mathlib.Core.Path.{◌≡◌}
+use Prim.Native.Nat.{◌-◌, ◌≤◌, ◌<◌}
+use native.Mathlib.Omega.{arith}
+use Rattle.first_pair.proofs.Capping.{below_none, below_one}
+use Rattle.costs.proofs.Lowering.{next_cost}
+use Rattle.costs.proofs.inner.lowering.least_next.Goals as goal
+
+pub loop-x-init : goal.loop-x-init
+loop-x-init c = (omega arith, below_none)
+
+pub loop-x-preserved : goal.loop-x-preserved
+loop-x-preserved c = (omega arith, below_one c.loop-x.invariant.1 c.least_in_row-least.ensures)
+
+pub returns : goal.returns
+returns c = let e : c.loop-x.x ≡ c.args.states = omega arith in next_cost (rw e at c.loop-x.invariant.1)

@@ -1,0 +1,12 @@
+-- `image` meets its contract: the set has what follows the pairs with a first state below u.
+use Prim.Native.Nat.{◌≤◌, ◌-◌}
+use lib.ListN.{get_or}
+use Rattle.cycles.proofs.PairSets.{SomeBelow, image_none, image_more, image_all}
+use Rattle.cycles.specs.Successors.{FollowsRow, ExactlyPairs}
+use Rattle.cycles.proofs.inner.sets.image.Given as goal
+
+abbrev pub invariant-loop-u : goal.invariant-loop-u
+invariant-loop-u l = (l.u ≤ l.states) × ExactlyPairs (SomeBelow (λ v. FollowsRow l.words v (get_or l.set v 0)) l.u) l.to
+
+abbrev pub decreases-loop-u : goal.decreases-loop-u
+decreases-loop-u l = l.states - l.u
