@@ -11,31 +11,28 @@ use Rattle.checker.proofs.inner.checked.Tie as tie
 known : (c : tie.Start) → CheckAccepted c.args.file.now (pair_of c.args.pair c.args.letters.now) true
 known c = check_accepted _ _ _ c.requires
 
-from-checked-requires : tie.Need-from-checked-requires
+from-checked-requires : tie.Need-from_checked-c-requires
 from-checked-requires c κs = (known c.before.before).file
 
-start-states-requires : tie.Need-start-states-requires
-start-states-requires c κs = coder_sound c.from-checked.ensures (accepted _ (known c.before.before.before).file)
+start-states-requires : tie.Need-start_states-starts-requires
+start-states-requires c κs = coder_sound c.from_checked-c.ensures (accepted _ (known c.before.before.before).file)
 
-different-letters-requires : tie.Need-different-letters-requires
+different-letters-requires : tie.Need-different_letters-conflicts-requires
 different-letters-requires c κs = search rules
 
 valid-requires : tie.Need-valid-requires
 valid-requires c κs =
-    let a = c.before.before.before.before.before.before in
-    record { c = a.from-checked.result; of = check_of a.from-checked.ensures (known a.before.before.before) }
+    record { c = c.from_checked-c.result; of = check_of c.from_checked-c.ensures (known c.before.before.before.before.before.before.before.before) }
 
 returns : tie.Need-returns
 returns c =
-    let a = c.before.before.before.before.before.before.before in
-    let e = a.from-checked.ensures in
-    let r = known a.before.before.before in
-    let d = c.before.before.before.before.before in
-    file_judged e r (record { starts_are = d.before.start-states.ensures; conflicts_are = d.different-letters.ensures })
-    (c.valid.ensures a.from-checked.result (check_of e r))
+    let e = c.from_checked-c.ensures in
+    let r = known c.before.before.before.before.before.before.before.before.before in
+    file_judged e r (record { starts_are = c.start_states-starts.ensures; conflicts_are = c.different_letters-conflicts.ensures })
+    (c.valid.ensures c.from_checked-c.result (check_of e r))
 
-pub checked-spec : {M : Type 1} → statement M
-checked-spec =
+pub checked_spec : {M : Type 1} → statement M
+checked_spec =
     tie.close
     (tie.spec
     from-checked-requires

@@ -36,7 +36,7 @@ array-share-prefix-bytes : tie.Need-slice_bounds-bytes-end
 array-share-prefix-bytes c = omega (arith, entries_few _ _ (match c.before))
 
 slice-aggregate-checked : tie.Need-slice_bounds-checked-end
-slice-aggregate-checked c = sym (length-take-le _ _ (array-share-prefix-bytes c))
+slice-aggregate-checked c = sym (length-take-le _ _ (array-share-prefix-bytes c.before))
 
 checked-requires : tie.Need-checked-requires
 checked-requires c κs =

@@ -65,7 +65,7 @@ loop-again c =
     let j = c.loop-j.j in (
       search rules,
       c.next_place-next.ensures j c.loop-j.invariant.1,
-      entries_more _ _ c.requires j c.loop-j.at c.loop-j.invariant.1 c.loop-j.invariant.2 (array-write-bytes-2 c)
+      entries_more _ _ c.requires j c.loop-j.at c.loop-j.invariant.1 c.loop-j.invariant.2 (array-write-bytes-2 c.before)
           c.joined_entry-e.ensures,
     )
 

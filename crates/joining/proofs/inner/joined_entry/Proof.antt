@@ -18,8 +18,8 @@ between c = rw c.entry-y.ensures.0 (c.requires.letters _ _)
 first_low : (c : tie.After-entry) → c.entry.result * c.args.states < 16
 first_low c = rw c.entry.ensures.0 (lt_of_le_of_lt (le-add_right _ _) (c.requires.next_state _ _ 0 0))
 
-next_low : (c : tie.After-entry-2) → c.entry.result * c.args.states + c.entry3.result < 16
-next_low c = rw (c.entry.ensures.0, c.entry3.ensures.0) (c.requires.next_state _ _ _ _)
+next_low : (c : tie.After-entry-2) → c.entry.result * c.args.states + c.entry-2.result < 16
+next_low c = rw (c.entry.ensures.0, c.entry-2.ensures.0) (c.requires.next_state _ _ _ _)
 
 mul_next : tie.Need-overflow_mul-next
 mul_next c = omega (arith, first_low c)
@@ -41,7 +41,7 @@ cast-t16 c = search rules
 
 returns : tie.Need-returns
 returns c =
-    rw (c.entry-output.ensures.0, c.entry.ensures.0, c.entry3.ensures.0, c.entry-y.ensures.0)
+    rw (c.entry-output.ensures.0, c.entry.ensures.0, c.entry-2.ensures.0, c.entry-y.ensures.0)
 
 pub joined_entry_spec : {M : Type 1} → statement M
 joined_entry_spec =

@@ -39,7 +39,7 @@ matches-requires c κs = (
 )
 
 size-requires : tie.Need-size-requires
-size-requires c κs = matches-requires c κs
+size-requires c κs = matches-requires c.before.before κs
 
 -- 17 passes
 matched :

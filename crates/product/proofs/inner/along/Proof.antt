@@ -50,23 +50,23 @@ round-requires c κs =
 
 -- what a round has done, in the direction w
 rounded :
-    (c : tie.After-round invariant_loop decreases_loop) (w : Direction) → c.args.near.now ≡ near_ends w c.args.t1 →
-    c.args.far.now ≡ far_ends w c.args.t1 →
-    Rounded c.args.t1 w c.args.starts c.loop-k.k c.round.new.1.1.1.1.1.0
-    c.round.new.1.1.1.1.1.1.0 c.round.new.1.1.1.1.1.1.1.0 c.round.result
+    (c : tie.After-round invariant_loop decreases_loop) (w : Direction) → c.args.near.now ≡ near_ends w c.args.c →
+    c.args.far.now ≡ far_ends w c.args.c →
+    Rounded c.args.c w c.args.starts c.loop-k.k c.round.new.d
+    c.round.new.xs c.round.new.ys c.round.result
 rounded c w n f =
-    let sound = c.pre.sound in
+    let sound = c.requires.sound in
     c.round.ensures _ w _ (arrays_of _ w sound _ _ _ n f c.by_key-chain.ensures) refl (c.loop-k.invariant.1 w n f)
 
 -- a round that changed something
-low : (c : tie.Then-round invariant_loop decreases_loop) → c.loop-k.k < pairs c.args.t1.states
+low : (c : tie.Then-round invariant_loop decreases_loop) → c.loop-k.k < pairs c.args.c.states
 low c =
-    let p = c.pre in
+    let p = c.requires in
     let r = rounded c.before p.d p.near_is p.far_is in
     changed_low _ _ _ p.sound r.after (r.changed.yes' c.if-round.true)
 
-high : (c : tie.Then-round invariant_loop decreases_loop) → pairs c.args.t1.states ≤ max_side
-high c = pairs_high _ c.pre.sound.states_high
+high : (c : tie.Then-round invariant_loop decreases_loop) → pairs c.args.c.states ≤ max_side
+high c = pairs_high _ c.requires.sound.states_high
 
 add-k : tie.Need-overflow_add-k invariant_loop decreases_loop
 add-k c = omega (arith, low c, high c)
@@ -78,13 +78,13 @@ loop-again : tie.Need-loop-k-preserved invariant_loop decreases_loop
 loop-again c = (
   omega (arith, low c),
   λ w n f.
-      before_next _ _ _ c.pre.sound (omega (arith, low c, high c)) (rounded c.before w n f).after,
+      before_next _ _ _ c.requires.sound (omega (arith, low c, high c)) (rounded c.before w n f).after,
 )
 
 returns : tie.Need-returns-else-round invariant_loop decreases_loop
 returns c = λ w n f.
     let r = rounded c.before w n f in
-    depths_found _ _ _ c.pre.sound c.loop-k.inv.0 r.after (r.changed.no' c.if-round.false)
+    depths_found _ _ _ c.requires.sound c.loop-k.invariant.0 r.after (r.changed.no' c.if-round.false)
 
 pub along_spec : {M : Type 1} → statement M
 along_spec =

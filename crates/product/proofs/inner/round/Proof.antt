@@ -62,21 +62,21 @@ wide-requires-2 : tie.Need-wide-requires-then-d-u invariant_loop decreases_loop
 wide-requires-2 c κs = search rules
 
 module _ (c : tie.After-wide-then-d-u invariant_loop decreases_loop) (m : Coder) (way : Direction) (starts : ℕ)
-    (arrays : ArraysOf m way (start c).args.last.now (start c).args.previous.now (start c).args.output.now
-    (start c).args.far.now)
-    (states_is : (start c).args.states ≡ m.states) (low : suc (start c).args.k < endless)
-    (before : Before m way starts (start c).args.k (start c).args.d.now (start c).args.xs.now (start c).args.ys.now) where
+    (arrays : ArraysOf m way c.args.last.now c.args.previous.now c.args.output.now
+    c.args.far.now)
+    (states_is : c.args.states ≡ m.states) (low : suc c.args.k < endless)
+    (before : Before m way starts c.args.k c.args.d.now c.args.xs.now c.args.ys.now) where
   -- what is sought from the edge kept for the pair on
   seeking :
-      Seeking m way (Above (turn c).before.loop-a.d (start c).args.k) ((turn c).before.loop-a.a / 16) ((turn c).before.loop-a.a % 16)
-      c.before.before.wide.result c.wide-then-d-u.result
+      Seeking m way (Above c.loop-a.d c.args.k) (c.loop-a.a / 16) (c.loop-a.a % 16)
+      c.wide.result c.wide-then-d-u.result
   seeking =
-      seeking_here _ _ _ _ _ low ((turn c).before.loop-a.invariant.1 m way starts arrays states_is low before) (inside (turn c))
-      (standing c).if-d-u.true c.before.before.wide.ensures c.wide-then-d-u.ensures
+      seeking_here _ _ _ _ _ low (c.loop-a.invariant.1 m way starts arrays states_is low before) (inside c.before.before.before.before.before.before.before.before)
+      c.if-d-u.true c.wide.ensures c.wide-then-d-u.ensures
 
 seek-requires : tie.Need-seek-e-requires invariant_loop decreases_loop
 seek-requires c κs =
-    let p = c.pre in
+    let p = c.requires in
     record {
       c = p.c;
       d = p.d;
@@ -89,7 +89,7 @@ seek-requires c κs =
 sought_high : (c : tie.After-seek-e invariant_loop decreases_loop) → (c.seek-e.result.x ≤ 256) × (c.seek-e.result.y ≤ 256)
 sought_high c =
     let p = c.requires in
-    let s = (c.seek-e.ensures _ _ _ p.arrays (seeking c _ _ _ p.arrays p.states_is p.level p.before)).seeking in
+    let s = (c.seek-e.ensures _ _ _ p.arrays (seeking c.before _ _ _ p.arrays p.states_is p.level p.before)).seeking in
     (s.on₁.high, s.on₂.high)
 
 cast-xs : tie.Need-overflow_cast-xs invariant_loop decreases_loop
@@ -111,7 +111,7 @@ element-write-ys : tie.Need-bounds-ys-place-then-d-u invariant_loop decreases_lo
 element-write-ys c = omega (arith, inside c.before.before.before.before.before.before.before.before.before)
 
 add-d : tie.Need-overflow_add-d invariant_loop decreases_loop
-add-d c = omega (arith, c.pre.level)
+add-d c = omega (arith, c.requires.level)
 
 mul-d : tie.Need-offset_bounds-d-u-then-x-eq0 invariant_loop decreases_loop
 mul-d c = search rules
@@ -129,7 +129,7 @@ loop-again : tie.Need-loop-a-preserved-then-x-eq0 invariant_loop decreases_loop
 loop-again c = (
   omega arith,
   λ m way starts arrays e low b.
-      let found = c.seek-e.ensures m way _ arrays (seeking c m way starts arrays e low b) in
+      let found = c.seek-e.ensures m way _ arrays (seeking c.before.before m way starts arrays e low b) in
       round_falls _ _ _ _ _ low (c.loop-a.invariant.1 m way starts arrays e low b) (inside c.before.before.before.before.before.before.before.before.before.before) c.if-d-u.true found
       c.if-x-eq0.true,
 )
@@ -141,7 +141,7 @@ loop-again-2 : tie.Need-loop-a-preserved-else-x-eq0 invariant_loop decreases_loo
 loop-again-2 c = (
   omega arith,
   λ m way starts arrays e low b.
-      let found = c.seek-e.ensures m way _ arrays (seeking c m way starts arrays e low b) in
+      let found = c.seek-e.ensures m way _ arrays (seeking c.before.before m way starts arrays e low b) in
       round_stands _ _ _ _ _ low (c.loop-a.invariant.1 m way starts arrays e low b) (inside c.before.before.before.before.before.before.before.before.before.before) c.if-d-u.true found
       (omega (arith, c.if-x-eq0.false)),
 )

@@ -55,7 +55,7 @@ row_less :
     (c : tie.After-wide-y invariant_loop decreases_loop) →
     (c.wide-x.result < c.loop-x.x) × (c.wide-y.result ≤ 256)
 row_less c =
-    let a = c.pre.arrays in
+    let a = c.requires.arrays in
     let s = seeking_here c.before.before.before.before.before.before.before.before in
     (first_less a s c.loop-x-test.true c.wide-x.ensures, last_high a s c.wide-y.ensures)
 
@@ -67,7 +67,7 @@ loop-again c = (
   omega (arith, (row_less c).0),
   (row_less c).1,
   λ k way u a t.
-      row_step a (c.loop-x.inv.2 k way u a t) c.loop-x-test.taken (omega arith) c.wide-x.ensures
+      row_step a (c.loop-x.invariant.2 k way u a t) c.loop-x-test.true (omega arith) c.wide-x.ensures
       c.wide-y.ensures,
 )
 
@@ -85,7 +85,7 @@ stands-requires c κs =
 
 returns : tie.Need-returns-then-stands invariant_loop decreases_loop
 returns c = λ k way u a t.
-    taken a c.args.d.now c.args.k (c.loop-x.inv.2 k way u a t) (omega arith) (omega arith)
+    taken a c.args.d.now c.args.k (c.loop-x.invariant.2 k way u a t) (omega arith) (omega arith)
     (via c.stands.ensures c.if-stands.true)
 
 mul-wide-3 : tie.Need-offset_bounds-previous-q invariant_loop decreases_loop
@@ -100,7 +100,7 @@ wide-requires-3 c κs = search rules
 -- an edge is passed
 edge_less : (c : tie.After-wide-y-else-y-eq0 invariant_loop decreases_loop) → c.wide-y-else-y-eq0.result < c.loop-x.y
 edge_less c =
-    second_less c.pre.arrays (seeking_here c.before.before.before.before.before.before.before) (omega arith) c.wide-y-else-y-eq0.ensures
+    second_less c.requires.arrays (seeking_here c.before.before.before.before.before.before.before) (omega arith) c.wide-y-else-y-eq0.ensures
 
 loop-less-2 : tie.Need-loop-x-smaller invariant_loop decreases_loop
 loop-less-2 c = omega (arith, edge_less c)
@@ -108,10 +108,10 @@ loop-less-2 c = omega (arith, edge_less c)
 loop-again-2 : tie.Need-loop-x-preserved invariant_loop decreases_loop
 loop-again-2 c =
     (
-      c.loop-x.inv.0,
+      c.loop-x.invariant.0,
       omega (arith, edge_less c),
       λ k way u a t.
-          passed a c.args.d.now c.args.k (c.loop-x.inv.2 k way u a t) (omega arith) (omega arith)
+          passed a c.args.d.now c.args.k (c.loop-x.invariant.2 k way u a t) (omega arith) (omega arith)
           (via c.stands.ensures c.if-stands.false) c.wide-y-else-y-eq0.ensures,
     )
 

@@ -13,4 +13,4 @@ pub returns : goal.returns
 returns c =
     let d = c.decimal-k in
     let n = c.args.n in
-    rw (decimal_of d.result n d.ensures.len d.ensures.1.1) at c.put.ensures
+    rw (decimal_of d.result n d.ensures.len d.ensures.digits) at c.put.ensures

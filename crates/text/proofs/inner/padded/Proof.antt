@@ -50,7 +50,7 @@ returns : tie.Need-returns
 returns c =
     let a = c.args in
     let e : a.at + a.width - c.decimal-k.result - a.at ≡ a.width - length (decimal a.n) = omega (arith, few c.before.before.before.before.before.before.before.before.before) in
-    let digits = decimal_of c.decimal-k.result a.n c.decimal-k.ensures.1.0 c.decimal-k.ensures.1.1 in
+    let digits = decimal_of c.decimal-k.result a.n c.decimal-k.ensures.1.0 c.decimal-k.ensures.1.1.0 in
     written_then (fill_all a.pad _ _ e c.fill-first.ensures) (rw digits at c.put.ensures)
 
 pub padded_spec : {M : Type 1} → statement M

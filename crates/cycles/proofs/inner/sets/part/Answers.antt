@@ -4,6 +4,7 @@ use Prim.Native.Nat.{ℕ, ◌≤◌, ◌-◌, ◌<◌}
 use Rattle.cycles.proofs.PairSets.{RowsParted, parted_none, parted_more, parted_all}
 use native.Mathlib.Omega.{arith}
 use Rattle.cycles.proofs.inner.sets.part.Goals as goal
+use Rattle.cycles.proofs.inner.sets.part.Goals.{then-fresh-ne0, else-fresh-ne0}
 
 pub loop-x-init : goal.loop-x-init
 loop-x-init c = (omega arith, parted_none c.requires.0.size c.requires.1.size)
@@ -17,10 +18,7 @@ loop-x-preserved c =
     let l : i.x < 16 = omega arith in (
       omega arith,
       parted_more i.invariant.1 l refl refl
-          (⊎_elim
-          (λ w z. let e : ◌≡◌ {A = ℕ} 0 1 = cc in absurd (omega arith))
-          (λ w z. (sym w.1 ∙ z, w.0.left))
-          c.if-fresh-ne0.branch),
+          (λ z. elim c.if-fresh-ne0.branch [ then-fresh-ne0 w ↦ let e : ◌≡◌ {A = ℕ} 0 1 = cc in absurd (omega arith) | else-fresh-ne0 w ↦ (sym w.some-is ∙ z, w.if-fresh-ne0.false) ]),
     )
 
 pub returns : goal.returns

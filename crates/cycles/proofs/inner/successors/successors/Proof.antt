@@ -19,7 +19,7 @@ by-output-requires c κs =
 -- the table by output letter, where it is made
 made :
     (c : tie.After-by_output-to) →
-    let k = c.args.t1 in
+    let k = c.args.c in
     ByOutput (place_parts false) k.next k.output k.states k.inputs c.by_output-to.result
 made c = rw c.parts-own.ensures at c.by_output-to.ensures
 

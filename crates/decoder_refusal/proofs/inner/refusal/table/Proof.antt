@@ -45,12 +45,12 @@ asked c = sym (c.allowed.ensures ∙ ap₂ table_allowed c.byte-outputs.ensures.
 
 returns-2 : tie.Need-returns-then-not-allowed
 returns-2 c =
-    sym (table_by_cases _ _ false _ (not_refused c.before.before.before.before) (asked c.before ∙ not-true _ c.if-not-allowed.true))
+    sym (table_by_cases _ _ false _ (not_refused c.before.before.before.before) (asked c.before ∙ c.if-not-allowed.true))
 
 is_allowed :
     (c : tie.Else-not-allowed) →
     let a = c.args in table_allowed (outputs_of a.file.now) (size a.w) ≡ true
-is_allowed c = asked c.before ∙ not-false _ c.if-not-allowed.false
+is_allowed c = asked c.before ∙ c.if-not-allowed.false
 
 size-requires : tie.Need-size-requires
 size-requires c κs =

@@ -4,7 +4,7 @@ use lib.ListN.{get_or}
 use borrow.Author.Rules.{rules}
 use Rattle.mealy.specs.Word.{Has}
 use Rattle.mealy.specs.Setting.{Setting, worded}
-use Rattle.mealy.specs.LoopedPair.{LoopedPair, first, second, letter_at, mark}
+use Rattle.mealy.specs.LoopedPair.{LoopedPair, first, second, letter_at, mark, start_of}
 use Rattle.mealy.proofs.PairParts.{valid→parts, parts→valid}
 use Rattle.coder.specs.Refusal.{Judges}
 use Rattle.coder.specs.Table.{machine_of_coder}
@@ -43,7 +43,7 @@ byte-requires-2 c κs = search rules
 conflict-requires : tie.Need-conflict-requires
 conflict-requires c κs =
     let a = c.requires in
-    (rw c.byte.ensures.0 (mark_low a _ (omega arith)), rw c.byte2.ensures.0 (mark_low a _ (omega arith)))
+    (rw c.byte.ensures.0 (mark_low a _ (omega arith)), rw c.byte-then-has-2.ensures.0 (mark_low a _ (omega arith)))
 
 parts-requires : tie.Need-parts-requires
 parts-requires c κs = search rules
@@ -61,7 +61,7 @@ conflict_judged :
 conflict_judged c =
     let p = pair c.before.before.before.before.before.before.before.before.before in
     let e = letter_first p (mark p) _ c.byte.ensures.0 in
-    rw (e, c.byte2.ensures.0) at c.conflict.ensures
+    rw (e, c.byte-then-has-2.ensures.0) at c.conflict.ensures
 
 returns : tie.Need-returns-then-conflict
 returns c =
@@ -70,9 +70,9 @@ returns c =
     judges_map
     (λ q. parts→valid (setting c.before.before.before.before.before.before.before.before.before.before.before d) p (record {
       held = omega (arith, w.size);
-      start = λ r. elim r [
+      start = λ r. elim r as (λ k. (setting c.before.before.before.before.before.before.before.before.before.before.before d).Start (start_of p k)) [
         | first ↦ (w.first, c.has.ensures.yes' c.if-has.true)
-        | second ↦ (w.second, c.has-then-has.ensures.yes' c.if2.true)
+        | second ↦ (w.second, c.has-then-has.ensures.yes' c.if-has-2.true)
       ];
       conflict = (conflict_judged c.before.before).yes' c.if-conflict.true;
       parts = q;
@@ -84,7 +84,7 @@ returns-2 : tie.Need-returns-else-conflict
 returns-2 c = λ d w. judges_not (λ v. (conflict_judged c.before).no' c.if-conflict.false v.conflict)
 
 returns-3 : tie.Need-returns-else-has-2
-returns-3 c = λ d w. judges_not (λ v. c.has-then-has.ensures.no' c.if2.false (v.start second).1)
+returns-3 c = λ d w. judges_not (λ v. c.has-then-has.ensures.no' c.if-has-2.false (v.start second).1)
 
 returns-4 : tie.Need-returns-else-has
 returns-4 c = λ d w. judges_not (λ v. c.has.ensures.no' c.if-has.false (v.start first).1)
