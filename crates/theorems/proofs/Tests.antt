@@ -291,7 +291,7 @@ module _ (S : Setting) {starts : ℕ} (held : Holds S.Start starts) (conflict : 
       let u = both_true o (d && c) z.1 in
       let v = both_true d c u.1 in
       let w = both_true (closes_test M starts p first) (closes_test M starts p second) v.1 in
-      let run : (r : Run) → ClosedRun r = λ r. elim r [ first ↦ closed_run first w.0 | second ↦ closed_run second w.1 ] in
+      let run : (r : Run) → ClosedRun r = λ r. elim r as (λ k. ClosedRun k) [ first ↦ closed_run first w.0 | second ↦ closed_run second w.1 ] in
       record {
         held = leb-true _ _ x.0;
         start = λ r. test_start held (start_of p r) (run r).start;

@@ -5,4 +5,7 @@ use Rattle.report_text.proofs.report.Goals as goal
 pub returns : goal.returns
 returns c =
     let z = c.zeros-bytes in
-    (text_promise z.ensures.0 c.write-len.ensures, text_padded z.ensures.0 z.ensures.1 c.write-len.ensures)
+    record {
+      report_promise = text_promise z.ensures.0 c.write-len.ensures;
+      padded = text_padded z.ensures.0 z.ensures.1 c.write-len.ensures;
+    }

@@ -8,7 +8,7 @@ use Rattle.search_host.proofs.search.Goals as goal
 pub put-requires : goal.put-requires
 put-requires c =
     let a = c.args in
-    let left = c.search-own.new.1.1.1.0 in
+    let left = c.search-own.new.letters in
     λ z.
     leb-true _ _
     (via c.roomy.ensures

@@ -17,7 +17,7 @@ word_number-b-requires c =
       three_digits c.args.states c.requires.0,
       three_digits c.args.inputs c.requires.1,
       c.requires.3,
-      c.word_number-a.auto.0,
+      c.word_number-a.auto.out,
       c.word_number-a.ensures.end,
     )
 
@@ -29,9 +29,9 @@ word_number-c-requires c =
       three_digits c.args.inputs c.requires.1,
       three_digits c.args.outputs c.requires.2,
       c.requires.3,
-      c.word_number-a.auto.0,
+      c.word_number-a.auto.out,
       c.word_number-a.ensures.end,
-      c.word_number-b.auto.0,
+      c.word_number-b.auto.out,
       c.word_number-b.ensures.end,
     )
 
@@ -43,11 +43,11 @@ put-requires c =
       three_digits c.args.inputs c.requires.1,
       three_digits c.args.outputs c.requires.2,
       c.requires.3,
-      c.word_number-a.auto.0,
+      c.word_number-a.auto.out,
       c.word_number-a.ensures.end,
-      c.word_number-b.auto.0,
+      c.word_number-b.auto.out,
       c.word_number-b.ensures.end,
-      c.word_number-c.auto.0,
+      c.word_number-c.auto.out,
       c.word_number-c.ensures.end,
     )
 
@@ -57,4 +57,4 @@ returns c =
     let third = written_both space _ second c.word_number-c.ensures in
     let line = written_then third c.put.ensures in
     let l = coder_length c.args.states c.args.inputs c.args.outputs c.requires.0 c.requires.1 c.requires.2 in
-    (line, omega (arith, line.end, l))
+    record { placed = line; upper_bound = omega (arith, line.end, l) }

@@ -10,7 +10,7 @@ word_number-a-requires c =
 
 pub put-requires : goal.put-requires
 put-requires c =
-    omega (arith, three_digits c.args.k c.requires.0, c.requires.1, c.word_number-a.auto.0, c.word_number-a.ensures.end)
+    omega (arith, three_digits c.args.k c.requires.0, c.requires.1, c.word_number-a.auto.out, c.word_number-a.ensures.end)
 
 pub returns : goal.returns
 returns c =

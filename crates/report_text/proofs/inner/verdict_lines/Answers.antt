@@ -6,30 +6,30 @@ use Rattle.report_text.proofs.inner.verdict_lines.Goals as goal
 pub window_line-requires : goal.window_line-requires
 window_line-requires c =
     let b = c.buffer-letters in
-    let h = window_short _ b.result c.search-found.last.1.1.0 c.requires.0 b.ensures c.search-found.ensures c.found-1.given.1
-    c.v-1.given.1 in
+    let h = window_short _ b.result c.search-found.new.letters c.requires.0 b.ensures c.search-found.ensures c.in-Found.is
+    c.in-Least.is in
     (omega (arith, h), omega (arith, h), omega (arith, c.requires.1))
 
 pub no_decoder-requires : goal.no_decoder-requires
 no_decoder-requires c =
     let b = c.buffer-letters in
-    pair_asked _ b.result c.search-found.last.1.1.0 c.requires.0 b.ensures c.search-found.ensures c.found-1.given.1 c.in-Found.is
+    pair_asked _ b.result c.search-found.new.letters c.requires.0 b.ensures c.search-found.ensures c.in-Found.is c.in-NoDecoder.is
     (omega (arith, c.requires.1))
 
 pub returns-in-Refused : goal.returns-in-Refused
 returns-in-Refused c =
     let b = c.buffer-letters in
     absurd
-    (never_refused _ b.result c.search-found.new.1.1.0 c.requires.0 b.ensures c.search-found.ensures c.in-Refused.is)
+    (never_refused _ b.result c.search-found.new.letters c.requires.0 b.ensures c.search-found.ensures c.in-Refused.is)
 
 pub returns-in-Least : goal.returns-in-Least
 returns-in-Least c =
     let b = c.buffer-letters in
-    window_lines _ b.result c.search-found.last.1.1.0 c.requires.0 b.ensures c.search-found.ensures c.in-Least.is
+    window_lines _ b.result c.search-found.new.letters c.requires.0 b.ensures c.search-found.ensures c.in-Found.is
     c.in-Least.is c.window_line.ensures
 
 pub returns-in-NoDecoder : goal.returns-in-NoDecoder
 returns-in-NoDecoder c =
     let b = c.buffer-letters in
-    pair_lines _ b.result c.search-found.last.1.1.0 c.requires.0 b.ensures c.search-found.ensures c.in-NoDecoder.is
-    c.in-Found.is c.no_decoder.ensures
+    pair_lines _ b.result c.search-found.new.letters c.requires.0 b.ensures c.search-found.ensures c.in-Found.is
+    c.in-NoDecoder.is c.no_decoder.ensures

@@ -16,7 +16,7 @@ word_number-b-requires c =
       three_digits c.args.before c.requires.0,
       three_digits c.args.after c.requires.1,
       c.requires.2,
-      c.word_number-a.auto.0,
+      c.word_number-a.auto.out,
       c.word_number-a.ensures.end,
     )
 
@@ -27,9 +27,9 @@ put-requires c =
       three_digits c.args.before c.requires.0,
       three_digits c.args.after c.requires.1,
       c.requires.2,
-      c.word_number-a.auto.0,
+      c.word_number-a.auto.out,
       c.word_number-a.ensures.end,
-      c.word_number-b.auto.0,
+      c.word_number-b.auto.out,
       c.word_number-b.ensures.end,
     )
 

@@ -5,7 +5,7 @@ use Rattle.report_text.proofs.inner.write.Goals as goal
 
 pub refused-requires : goal.refused-requires
 refused-requires c =
-    (refused_short _ c.counts-header.ensures c.header-1.given.1, omega (arith, c.requires))
+    (refused_short _ c.counts-header.ensures c.in-Refused.is, omega (arith, c.requires))
 
 pub coder_line-at-requires : goal.coder_line-at-requires
 coder_line-at-requires c =
@@ -16,7 +16,7 @@ pub verdict_lines-requires : goal.verdict_lines-requires
 verdict_lines-requires c =
     (
       (header_counts _ c.counts-header.ensures c.in-Counts.is).none,
-      omega (arith, c.coder_line-at.auto.0, c.coder_line-at.ensures.1, c.requires),
+      omega (arith, c.coder_line-at.auto.out, c.coder_line-at.ensures.upper_bound, c.requires),
     )
 
 pub returns-in-Refused : goal.returns-in-Refused
@@ -25,4 +25,4 @@ returns-in-Refused c =
 
 pub returns-in-Counts : goal.returns-in-Counts
 returns-in-Counts c =
-    report_accepted _ c.counts-header.ensures c.in-Counts.is c.coder_line-at.ensures.0 c.coder_line-at.ensures.1 c.verdict_lines.ensures
+    report_accepted _ c.counts-header.ensures c.in-Counts.is c.coder_line-at.ensures.placed c.coder_line-at.ensures.upper_bound c.verdict_lines.ensures
