@@ -1,6 +1,7 @@
 // Reads cases from standard input, makes the public call of each, and compares what it gave with what the case expects. Writes each case
 // that differs, and last how many cases there were and how many differ. The file `stdin` beside `src` says how a case is written.
 #![tactic(auto)]
+
 mod asking; // asking.rt: the call that a case asks for, with its arguments
 mod calls; // calls.rt: the public calls
 mod got; // got.rt: what a call gave, its text, and whether it is the expected one

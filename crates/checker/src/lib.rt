@@ -1,5 +1,6 @@
 // The checker of looped pairs from anyone. docs/public-calls.md describes the call.
 #![tactic(auto)]
+
 ghost use Rattle.values.specs.Pair.{pair_of};
 ghost use Rattle.checker.specs.Check.{CheckPromise};
 

@@ -1,5 +1,6 @@
 // The checker of looped pairs for a host in C: the library's own call, its result laid into a lent buffer.
 #![tactic(auto)]
+
 ghost use Rattle.std.specs.Prelude.{◌≡◌};
 ghost use Rattle.layout.specs.Host.{LaidOut, HasRoom};
 ghost use Rattle.values.specs.Pair.{pair_of, looped_pair};

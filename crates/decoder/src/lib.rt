@@ -1,5 +1,6 @@
 // The decoder: one window, a string, a table. docs/public-calls.md describes the calls.
 #![tactic(auto)]
+
 ghost use Rattle.decoder.specs.Window.{WindowPromise};
 ghost use Rattle.decoder.specs.Places.{StringPromise};
 ghost use Rattle.decoder.specs.Table.{TablePromise};

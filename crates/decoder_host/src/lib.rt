@@ -1,5 +1,6 @@
 // The decoder for a host in C: the library's own calls, each result laid into one more lent buffer.
 #![tactic(auto)]
+
 ghost use Rattle.std.specs.Prelude.{◌≤◌, ◌≡◌, length};
 ghost use Rattle.layout.specs.Layout.{result_bytes, with_fields};
 ghost use Rattle.layout.specs.Host.{LaidOut, HasRoom};

@@ -1,5 +1,6 @@
 // Two coders in a row: the public call. docs/public-calls.md describes it.
 #![tactic(auto)]
+
 ghost use Rattle.joining.specs.Join.{JoinPromise};
 
 use values::CountResult;

@@ -1,5 +1,6 @@
 // Two coders in a row for a host in C: the library's own call, its result laid into one more lent buffer.
 #![tactic(auto)]
+
 ghost use Rattle.joining_host.specs.Laid.{JoinFromHost};
 
 use layout::inner::{put_count, roomy};

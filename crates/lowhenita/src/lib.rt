@@ -1,6 +1,7 @@
 // The calls for a host in C, which include/lowhenita.h describes: each hands its arguments on to the function of its own crate that does
 // the work, and has that function's promise.
 #![tactic(auto)]
+
 ghost use Rattle.values.specs.Window.{window};
 ghost use Rattle.values.specs.Pair.{pair_of, looped_pair};
 ghost use Rattle.running_host.specs.Laid.{RunFromHost};

@@ -1,5 +1,6 @@
 // The reader of coder files: the public calls. docs/public-calls.md describes them.
 #![tactic(auto)]
+
 ghost use Rattle.std.specs.Prelude.{◌≡◌};
 ghost use Rattle.reader.specs.Read.{header_of, EntriesPart};
 

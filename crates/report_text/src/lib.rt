@@ -1,5 +1,6 @@
 // The text of the report on a coder file. docs/public-calls.md describes the call.
 #![tactic(auto)]
+
 ghost use Rattle.report_text.specs.Report.{ReportPromise};
 ghost use Rattle.report_text.specs.Text.{text_of, Padded};
 

@@ -1,5 +1,6 @@
 // The coder run: the public call. docs/public-calls.md describes it.
 #![tactic(auto)]
+
 ghost use Rattle.running.specs.Run.{RunPromise};
 
 pub mod inner; // inner.rt: the run with other lent buffers besides its own; no public calls

@@ -1,5 +1,6 @@
 // The coder run for a host in C: the library's own call, its result laid into one more lent buffer.
 #![tactic(auto)]
+
 ghost use Rattle.layout.specs.Host.{LaidOut, HasRoom};
 ghost use Rattle.running_host.specs.Laid.{laid_run, RunFromHost};
 

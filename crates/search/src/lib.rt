@@ -1,5 +1,6 @@
 // The window search. docs/public-calls.md describes the calls.
 #![tactic(auto)]
+
 ghost use Rattle.values.specs.Order.{default_order};
 ghost use Rattle.search.specs.Search.{SearchPromise};
 

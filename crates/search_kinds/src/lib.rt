@@ -1,5 +1,6 @@
 // The search for kinds of letter. docs/public-calls.md describes the call.
 #![tactic(auto)]
+
 ghost use Rattle.search_kinds.specs.Search.{SearchKindsPromise};
 
 pub mod inner; // inner.rt: the search with lent buffers; no public calls

@@ -36,7 +36,7 @@ joined_scrambler =
     let p : JoinPromise scrambler (parity 2) (replicate 70 0) (Done 70) x.1 =
     subst (λ (r : CountResult). JoinPromise scrambler (parity 2) (replicate 70 0) r x.1) w.result x.2 in
     let file : take 70 x.1 ≡ scrambled = rw w.bytes refl in
-    subst (InRow scrambler (parity 2)) file (coders_in_row.own_val scrambler (parity 2) (replicate 70 0) 70 x.1 p)
+    subst (InRow scrambler (parity 2)) file (coders_in_row.own scrambler (parity 2) (replicate 70 0) 70 x.1 p)
 
 -- some outcome of a search whose every outcome is this window
 searched_window :

@@ -1,5 +1,6 @@
 // What the calls are given and give: a window, an order of windows, a looped pair, a number of bytes.
 #![tactic(auto)]
+
 pub mod inner; // inner.rt: the comparison of two windows; no public calls
 
 // A window: how many letters before the present one and after it, and how many letters, unseen, its runs read ahead of it.

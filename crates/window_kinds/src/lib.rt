@@ -1,5 +1,6 @@
 // The decoder of kinds of letter. docs/public-calls.md describes the call.
 #![tactic(auto)]
+
 ghost use Rattle.window_kinds.specs.Window.{WindowKindsPromise};
 
 pub mod inner; // inner.rt: the decoder with lent buffers; no public calls

@@ -1,5 +1,6 @@
 // The writer of coder files: the public call. docs/public-calls.md describes it.
 #![tactic(auto)]
+
 ghost use Rattle.writer.specs.Write.{WritePromise};
 
 use values::CountResult;

@@ -1,5 +1,6 @@
 // The writer of coder files for a host in C: the library's own call, its result laid into one more lent buffer.
 #![tactic(auto)]
+
 ghost use Rattle.writer_host.specs.Laid.{WriteFromHost};
 
 use layout::inner::{put_count, roomy};

@@ -9,7 +9,7 @@ pub loop-p-init : goal.loop-p-init
 loop-p-init c = (search rules, filled_none refl)
 
 pub loop-p-preserved : goal.loop-p-preserved
-loop-p-preserved c = (omega arith, filled_more c.before.before.loop-p.invariant.1 (omega arith) c.part.ensures)
+loop-p-preserved c = (omega arith, filled_more c.loop-p.invariant.1 (omega arith) c.part.ensures)
 
 pub returns : goal.returns
-returns c = filled_all c.before.loop-p.invariant.1 (λ j l m. absurd (omega arith))
+returns c = filled_all c.loop-p.invariant.1 (λ j l m. absurd (omega arith))

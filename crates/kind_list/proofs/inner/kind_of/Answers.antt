@@ -5,4 +5,4 @@ use lib.ListN.{get_or-eq_default}
 use Rattle.kind_list.proofs.inner.kind_of.Goals as goal
 
 pub returns : goal.returns
-returns c = sym (get_or-eq_default c.before.before.args.kinds.now 0 {n = c.before.before.args.i} (omega arith))
+returns c = sym (get_or-eq_default c.args.kinds.now 0 {n = c.args.i} (omega arith))

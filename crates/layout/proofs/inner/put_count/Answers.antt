@@ -5,13 +5,11 @@ use Rattle.layout.proofs.inner.put_count.Goals as goal
 
 pub put_one-requires : goal.put_one-requires
 put_one-requires c =
-    let o = c in
-    (rw o.in-Done.is at o.requires) refl
+    (rw c.in-Done.is at c.requires) refl
 
 pub returns-in-Refused : goal.returns-in-Refused
 returns-in-Refused c = rw c.in-Refused.is (refused_out _ _)
 
 pub returns-in-Done : goal.returns-in-Done
 returns-in-Done c =
-    let p = c in
-    rw p.in-Done.is (record { number = refl; fields = p.put_one.ensures })
+    rw c.in-Done.is (record { number = refl; fields = c.put_one.ensures })

@@ -30,11 +30,10 @@ loop-a-preserved-else-no_later c =
     )
 
 pub loop-a-preserved : goal.loop-a-preserved
-loop-a-preserved c =
-    (
-      search rules,
-      first_stays (is_order c.args.order) c.loop-a.invariant.1 (omega arith) refl (λ m. absurd (omega arith)),
-    )
+loop-a-preserved c = (
+  search rules,
+  first_stays (is_order c.args.order) c.loop-a.invariant.1 (omega arith) refl (λ m. absurd (omega arith)),
+)
 
 pub returns : goal.returns
 returns c =

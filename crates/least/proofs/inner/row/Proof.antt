@@ -73,25 +73,23 @@ loop-less : tie.Need-loop-y-smaller-else-count invariant_loop decreases_loop
 loop-less c = less c.before.before.before.before.before
 
 loop-again : tie.Need-loop-y-preserved-else-count invariant_loop decreases_loop
-loop-again c =
-    (
-      omega (arith, less c.before.before.before.before.before),
-      λ k r.
-          row_counted _ _ _ _ _ _ _ _ r (c.loop-y.invariant.1 k r) (omega arith) (conflict c.before.before.before) c.count.ensures c.if-count.false
-          c.wide-y.ensures,
-    )
+loop-again c = (
+  omega (arith, less c.before.before.before.before.before),
+  λ k r.
+      row_counted _ _ _ _ _ _ _ _ r (c.loop-y.invariant.1 k r) (omega arith) (conflict c.before.before.before) c.count.ensures c.if-count.false
+      c.wide-y.ensures,
+)
 
 loop-less-2 : tie.Need-loop-y-smaller invariant_loop decreases_loop
 loop-less-2 c = less c.before.before
 
 loop-again-2 : tie.Need-loop-y-preserved invariant_loop decreases_loop
-loop-again-2 c =
-    (
-      omega (arith, less c.before.before),
-      λ k r.
-          row_apart _ _ _ _ _ _ _ _ r (c.loop-y.invariant.1 k r) (omega arith) c.wide-y.ensures
-          (c.has.ensures.no' c.if-has.false),
-    )
+loop-again-2 c = (
+  omega (arith, less c.before.before),
+  λ k r.
+      row_apart _ _ _ _ _ _ _ _ r (c.loop-y.invariant.1 k r) (omega arith) c.wide-y.ensures
+      (c.has.ensures.no' c.if-has.false),
+)
 
 returns-3 : tie.Need-returns invariant_loop decreases_loop
 returns-3 c = λ k r.

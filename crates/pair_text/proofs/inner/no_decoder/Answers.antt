@@ -10,19 +10,18 @@ pair_line-b-requires c =
     omega (arith, text_length (pair_of c.args.p c.args.letters.now), c.requires.room, c.put-a.auto.out, c.put-a.ensures.end)
 
 pub letters_line-requires : goal.letters_line-requires
-letters_line-requires c =
-    (
-      c.requires.held,
-      omega (
-        arith,
-        text_length (pair_of c.args.p c.args.letters.now),
-        c.requires.room,
-        c.put-a.auto.out,
-        c.put-a.ensures.end,
-        c.pair_line-b.auto.out,
-        c.pair_line-b.ensures.end,
-      ),
-    )
+letters_line-requires c = (
+  c.requires.held,
+  omega (
+    arith,
+    text_length (pair_of c.args.p c.args.letters.now),
+    c.requires.room,
+    c.put-a.auto.out,
+    c.put-a.ensures.end,
+    c.pair_line-b.auto.out,
+    c.pair_line-b.ensures.end,
+  ),
+)
 
 pub returns : goal.returns
 returns c =

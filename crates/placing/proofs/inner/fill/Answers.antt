@@ -9,11 +9,11 @@ pub loop-i-init : goal.loop-i-init
 loop-i-init c = (search rules, search rules, search rules, fill_none _ _ _)
 
 pub loop-i-preserved : goal.loop-i-preserved
-loop-i-preserved c = (search rules, search rules, search rules, fill_more _ _ c.before.loop-i.invariant.0 c.before.loop-i.invariant.3)
+loop-i-preserved c = (search rules, search rules, search rules, fill_more _ _ c.loop-i.invariant.0 c.loop-i.invariant.3)
 
 pub returns : goal.returns
 returns c =
-    let l = c.before.loop-i in
-    let a = c.before.before.args in
+    let l = c.loop-i in
+    let a = c.args in
     let e : l.i - a.at ≡ a.end - a.at = omega arith in
     fill_all a.byte _ _ e l.invariant.3

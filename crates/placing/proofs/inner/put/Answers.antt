@@ -9,7 +9,7 @@ pub loop-i-init : goal.loop-i-init
 loop-i-init c = (search rules, search rules, record { buffer = refl; end = omega arith })
 
 pub loop-i-preserved : goal.loop-i-preserved
-loop-i-preserved c = (search rules, search rules, slice_more _ _ _ c.before.loop-i-test.true c.before.before.loop-i.invariant.2 (omega arith))
+loop-i-preserved c = (search rules, search rules, slice_more _ _ _ c.loop-i-test.true c.loop-i.invariant.2 (omega arith))
 
 pub returns : goal.returns
-returns c = slice_all _ _ c.before.loop-i.invariant.0 c.loop-i-test.false c.before.loop-i.invariant.2
+returns c = slice_all _ _ c.loop-i.invariant.0 c.loop-i-test.false c.loop-i.invariant.2

@@ -106,14 +106,13 @@ loop-less-2 : tie.Need-loop-x-smaller invariant_loop decreases_loop
 loop-less-2 c = omega (arith, edge_less c)
 
 loop-again-2 : tie.Need-loop-x-preserved invariant_loop decreases_loop
-loop-again-2 c =
-    (
-      c.loop-x.invariant.0,
-      omega (arith, edge_less c),
-      λ k way u a t.
-          passed a c.args.d.now c.args.k (c.loop-x.invariant.2 k way u a t) (omega arith) (omega arith)
-          (via c.stands.ensures c.if-stands.false) c.wide-y-else-y-eq0.ensures,
-    )
+loop-again-2 c = (
+  c.loop-x.invariant.0,
+  omega (arith, edge_less c),
+  λ k way u a t.
+      passed a c.args.d.now c.args.k (c.loop-x.invariant.2 k way u a t) (omega arith) (omega arith)
+      (via c.stands.ensures c.if-stands.false) c.wide-y-else-y-eq0.ensures,
+)
 
 returns-2 : tie.Need-returns invariant_loop decreases_loop
 returns-2 c = λ k way u a t. seek_none k way a.sound _ (c.loop-x.invariant.2 k way u a t) (omega arith)

@@ -4,7 +4,7 @@ use Rattle.coder.proofs.Alphabet.{word_judges}
 use Rattle.reader.proofs.inner.all_named.Goals as goal
 
 pub named_letters-requires : goal.named_letters-requires
-named_letters-requires c = let q = c.before.requires in
+named_letters-requires c = let q = c.requires in
     record {
       outputs_low = omega arith;
       outputs_high = omega arith;
@@ -13,4 +13,4 @@ named_letters-requires c = let q = c.before.requires in
     }
 
 pub returns : goal.returns
-returns c = word_judges c.before.before.requires c.named_letters.ensures
+returns c = word_judges c.requires c.named_letters.ensures

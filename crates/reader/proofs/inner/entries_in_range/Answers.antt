@@ -15,11 +15,11 @@ loop-j-init c = search rules
 pub loop-j-preserved : goal.loop-j-preserved
 loop-j-preserved c = (
   search rules,
-  all_more _ _ (via c.before.entry_in_range.ensures c.if-entry_in_range.true) c.before.before.before.loop-j.invariant.1,
+  all_more _ _ (via c.entry_in_range.ensures c.if-entry_in_range.true) c.loop-j.invariant.1,
 )
 
 pub returns-else-entry_in_range : goal.returns-else-entry_in_range
-returns-else-entry_in_range c = sym (all_not _ _ _ c.before.before.loop-j-test.true (via c.before.entry_in_range.ensures c.if-entry_in_range.false))
+returns-else-entry_in_range c = sym (all_not _ _ _ c.loop-j-test.true (via c.entry_in_range.ensures c.if-entry_in_range.false))
 
 pub returns : goal.returns
-returns c = let e : c.before.loop-j.j ≡ c.before.before.before.args.n = omega arith in rw (← e) (sym c.before.loop-j.invariant.1)
+returns c = let e : c.loop-j.j ≡ c.args.n = omega arith in rw (← e) (sym c.loop-j.invariant.1)

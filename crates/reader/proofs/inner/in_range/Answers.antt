@@ -6,16 +6,14 @@ use Rattle.reader.proofs.inner.in_range.Goals as goal
 pub returns-then-between-2 : goal.returns-then-between-2
 unfolding in_range
 returns-then-between-2 c =
-    let a = c.before.before.before in
-    simp (via a.before.between.ensures a.if-between.true, via c.before.before.between-then-between.ensures c.before.if-between-2.true)
+    simp (via c.between.ensures c.if-between.true, via c.between-then-between.ensures c.if-between-2.true)
     c.between-then-between-2.ensures
 
 pub returns-else-between-2 : goal.returns-else-between-2
 unfolding in_range
 returns-else-between-2 c =
-    let a = c.before.before in
-    simp (via a.before.between.ensures a.if-between.true, via c.before.between-then-between.ensures c.if-between-2.false)
+    simp (via c.between.ensures c.if-between.true, via c.between-then-between.ensures c.if-between-2.false)
 
 pub returns-else-between : goal.returns-else-between
 unfolding in_range
-returns-else-between c = simp (via c.before.between.ensures c.if-between.false)
+returns-else-between c = simp (via c.between.ensures c.if-between.false)

@@ -11,15 +11,14 @@ returns-then-len-lt6 c = search tests
 
 pub returns-then-byte-ne1 : goal.returns-then-byte-ne1
 unfolding file_refusal
-returns-then-byte-ne1 c = rw (← c.before.byte.ensures.0) (search tests)
+returns-then-byte-ne1 c = rw (← c.byte.ensures.0) (search tests)
 
 pub returns-then-count_field-len : goal.returns-then-count_field-len
 unfolding file_refusal
-returns-then-count_field-len c = rw (← c.before.before.before.byte.ensures.0, ← c.before.count_field.ensures) (search tests)
+returns-then-count_field-len c = rw (← c.byte.ensures.0, ← c.count_field.ensures) (search tests)
 
 pub returns : goal.returns
 returns c =
-    let a = c.before.before.before.before.before in
-    let f = a.before.before.before.before.before.before.args.file.now in
-    let z = by_rest f (omega arith) (omega arith) (via a.before.count_field.ensures a.if-count_field-len.false) in
+    let f = c.args.file.now in
+    let z = by_rest f (omega arith) (omega arith) (via c.count_field.ensures c.if-count_field-len.false) in
     cc

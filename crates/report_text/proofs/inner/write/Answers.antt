@@ -13,11 +13,10 @@ coder_line-at-requires c =
     (omega (arith, l), omega (arith, l), omega (arith, l), omega (arith, c.requires))
 
 pub verdict_lines-requires : goal.verdict_lines-requires
-verdict_lines-requires c =
-    (
-      (header_counts _ c.counts-header.ensures c.in-Counts.is).none,
-      omega (arith, c.coder_line-at.auto.out, c.coder_line-at.ensures.upper_bound, c.requires),
-    )
+verdict_lines-requires c = (
+  (header_counts _ c.counts-header.ensures c.in-Counts.is).none,
+  omega (arith, c.coder_line-at.auto.out, c.coder_line-at.ensures.upper_bound, c.requires),
+)
 
 pub returns-in-Refused : goal.returns-in-Refused
 returns-in-Refused c =

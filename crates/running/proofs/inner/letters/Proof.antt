@@ -47,12 +47,11 @@ loop-less : tie.Need-loop-i-smaller invariant_loop decreases_loop
 loop-less c = search rules
 
 loop-again : tie.Need-loop-i-preserved invariant_loop decreases_loop
-loop-again c =
-    (
-      rw c.entry-s.ensures.0 (c.requires.next_state _ _),
-      reached_more c.loop-i.invariant.1 c.loop-i-test.true (omega arith)
-          c.byte-x.ensures.0 c.entry.ensures.0 c.entry-s.ensures.0,
-    )
+loop-again c = (
+  rw c.entry-s.ensures.0 (c.requires.next_state _ _),
+  reached_more c.loop-i.invariant.1 c.loop-i-test.true (omega arith)
+      c.byte-x.ensures.0 c.entry.ensures.0 c.entry-s.ensures.0,
+)
 
 same_length : tie.Need-shape_of-written invariant_loop decreases_loop
 same_length c = c.loop-i.invariant.1.size

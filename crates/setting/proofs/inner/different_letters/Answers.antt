@@ -10,7 +10,7 @@ pub loop-i-init : goal.loop-i-init
 loop-i-init c = (omega arith, filled_none refl)
 
 pub loop-i-preserved : goal.loop-i-preserved
-loop-i-preserved c = let i = c.before.loop-i.invariant in let l : c.before.loop-i.i < 16 = omega arith in (omega arith, filled_more i.1 l (ap (λ x. 65535 - x) (shifted 16 _ l)))
+loop-i-preserved c = let i = c.loop-i.invariant in let l : c.loop-i.i < 16 = omega arith in (omega arith, filled_more i.1 l (ap (λ x. 65535 - x) (shifted 16 _ l)))
 
 pub returns : goal.returns
-returns c = let i = c.before.loop-i.invariant in let e : c.before.loop-i.i ≡ 16 = omega arith in made_all (rw e at i.1)
+returns c = let i = c.loop-i.invariant in let e : c.loop-i.i ≡ 16 = omega arith in made_all (rw e at i.1)

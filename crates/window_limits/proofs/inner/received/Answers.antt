@@ -7,13 +7,11 @@ returns-then-received-n c = search tests
 
 pub returns-then-letters_below : goal.returns-then-letters_below
 returns-then-letters_below c =
-    let b = c.before.before in
-    rw (b.if-fits.true, via c.before.letters_below.ensures c.if-letters_below.true) (search tests)
+    rw (c.if-fits.true, via c.letters_below.ensures c.if-letters_below.true) (search tests)
 
 pub returns-else-letters_below : goal.returns-else-letters_below
 returns-else-letters_below c =
-    let b = c.before.before in
-    rw (b.if-fits.true, via c.before.letters_below.ensures c.if-letters_below.false) (search tests)
+    rw (c.if-fits.true, via c.letters_below.ensures c.if-letters_below.false) (search tests)
 
 pub returns-else-fits : goal.returns-else-fits
 returns-else-fits c = rw c.if-fits.false (search tests)

@@ -7,8 +7,8 @@ use Rattle.window_limits.proofs.inner.settle.Goals as goal
 
 pub returns-then-count-gt-SETTLE : goal.returns-then-count-gt-SETTLE
 unfolding settle_refusal
-returns-then-count-gt-SETTLE c = rw (lt-leb c.before.args.count max_settle (omega arith))
+returns-then-count-gt-SETTLE c = rw (lt-leb c.args.count max_settle (omega arith))
 
 pub returns-else-count-gt-SETTLE : goal.returns-else-count-gt-SETTLE
 unfolding settle_refusal
-returns-else-count-gt-SETTLE c = rw (le-leb c.before.args.count max_settle (omega arith))
+returns-else-count-gt-SETTLE c = rw (le-leb c.args.count max_settle (omega arith))

@@ -11,9 +11,9 @@ loop-left-init c = (search rules, refl, refl)
 
 pub loop-left-preserved : goal.loop-left-preserved
 loop-left-preserved c =
-    let l = c.before.loop-left in
+    let l = c.loop-left in
     (omega arith, simp length-set l.invariant.1, store_last _ _ _ _ _ _ (omega arith) (omega arith) ∙ l.invariant.2)
 
 pub returns : goal.returns
 unfolding big_endian
-returns c = let l = c.before.loop-left in let e : l.left ≡ 0 = omega arith in rw e at l.invariant.2
+returns c = let l = c.loop-left in let e : l.left ≡ 0 = omega arith in rw e at l.invariant.2

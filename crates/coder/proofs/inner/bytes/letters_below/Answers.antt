@@ -13,13 +13,13 @@ loop-k-init c = (search rules, refl)
 pub loop-k-preserved : goal.loop-k-preserved
 loop-k-preserved c = (
   search rules,
-  letters_more _ _ _ c.before.before.loop-k-test.true (omega arith) c.before.before.before.loop-k.invariant.1,
+  letters_more _ _ _ c.loop-k-test.true (omega arith) c.loop-k.invariant.1,
 )
 
 pub returns-else-byte-n : goal.returns-else-byte-n
-returns-else-byte-n c = sym (letters_not _ _ _ c.before.before.loop-k-test.true (omega arith) c.before.before.before.loop-k.invariant.1)
+returns-else-byte-n c = sym (letters_not _ _ _ c.loop-k-test.true (omega arith) c.loop-k.invariant.1)
 
 pub returns : goal.returns
 returns c =
-    let e : c.before.loop-k.k ≡ length c.before.before.before.args.letters.now = omega arith in
-    sym (c.before.loop-k.invariant.1 ∙ rw (e, drop-length))
+    let e : c.loop-k.k ≡ length c.args.letters.now = omega arith in
+    sym (c.loop-k.invariant.1 ∙ rw (e, drop-length))

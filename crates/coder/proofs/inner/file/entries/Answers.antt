@@ -8,7 +8,7 @@ use Rattle.coder.proofs.inner.file.entries.Goals as goal
 
 pub returns : goal.returns
 returns c =
-    let f = c.before.args.file.now in
+    let f = c.args.file.now in
     record {
       result_value = take_all (length f - 6) (drop 6 f) (omega (arith, length-drop 6 f));
       ref_ptr_value = (search rules, search rules);

@@ -14,9 +14,9 @@ bounds-table-k c = search rules
 
 pub loop-k-preserved : goal.loop-k-preserved
 loop-k-preserved c =
-    let i = c.before.before.loop-k.invariant in
+    let i = c.loop-k.invariant in
     let l = bounds-table-k c in
     (search rules, i.1, filled_more i.2 l c.entry_byte.ensures)
 
 pub returns : goal.returns
-returns c = filled_all c.before.loop-k.invariant.2 (λ j l m. get_or_zeros 256 j ∙ sym (no_entry_from _ _ _ _ j (omega arith)))
+returns c = filled_all c.loop-k.invariant.2 (λ j l m. get_or_zeros 256 j ∙ sym (no_entry_from _ _ _ _ j (omega arith)))

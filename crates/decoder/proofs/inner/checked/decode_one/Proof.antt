@@ -28,12 +28,11 @@ of-coder-requires : tie.Need-of_coder-sets-requires
 of-coder-requires c κs = sound_of (coder_of_lem c.before)
 
 decode-requires : tie.Need-decode-requires
-decode-requires c κs =
-    (
-      record { coder = _; is = tables_of (coder_of_lem c.before.before.before.before.before.before) _ c.start_states-starts.ensures c.of_coder-sets.ensures },
-      low c.before.before.before.before.before.before,
-      omega (arith, (window_accepted _ _ _ _ c.requires).long),
-    )
+decode-requires c κs = (
+  record { coder = _; is = tables_of (coder_of_lem c.before.before.before.before.before.before) _ c.start_states-starts.ensures c.of_coder-sets.ensures },
+  low c.before.before.before.before.before.before,
+  omega (arith, (window_accepted _ _ _ _ c.requires).long),
+)
 
 returns : tie.Need-returns
 returns c =

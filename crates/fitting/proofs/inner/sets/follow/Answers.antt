@@ -11,7 +11,7 @@ pub returns-then-to-eq0 : goal.returns-then-to-eq0
 returns-then-to-eq0 c = followed_empty c.loop-k.invariant.1 c.if-to-eq0.true
 
 pub image-to-requires : goal.image-to-requires
-image-to-requires c = let p = c in let e = c.byte.ensures.0 in (p.requires.0, rw e (letter_at_lem 64 p.args.w.now p.requires.1 _ (omega arith)))
+image-to-requires c = let e = c.byte.ensures.0 in (c.requires.0, rw e (letter_at_lem 64 c.args.w.now c.requires.1 _ (omega arith)))
 
 pub loop-k-preserved : goal.loop-k-preserved
 loop-k-preserved c = (omega arith, followed_more c.loop-k.invariant.1 c.loop-k-test.true c.byte.ensures.0 c.image-to.ensures)

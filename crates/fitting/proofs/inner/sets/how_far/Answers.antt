@@ -9,23 +9,18 @@ loop-k-init c = (omega arith, still_none (omega arith) c.requires.2)
 
 pub image-next-requires : goal.image-next-requires
 image-next-requires c =
-    let p = c in
     let e = c.byte.ensures.0 in
-    (p.requires.0, rw e (letter_at_lem 64 p.args.w.now p.requires.1 _ (omega arith)))
+    (c.requires.0, rw e (letter_at_lem 64 c.args.w.now c.requires.1 _ (omega arith)))
 
 pub returns-then-next-eq0 : goal.returns-then-next-eq0
 returns-then-next-eq0 c =
-    let i = c in
-    let b = i in
-    still_stops b.loop-k.invariant.1 b.loop-k-test.true b.byte.ensures.0 i.image-next.ensures c.if-next-eq0.true
+    still_stops c.loop-k.invariant.1 c.loop-k-test.true c.byte.ensures.0 c.image-next.ensures c.if-next-eq0.true
 
 pub loop-k-preserved : goal.loop-k-preserved
-loop-k-preserved c =
-    let i = c in
-    let b = i in (
-      omega arith,
-      still_more b.loop-k.invariant.1 b.loop-k-test.true b.byte.ensures.0 i.image-next.ensures c.if-next-eq0.false,
-    )
+loop-k-preserved c = (
+  omega arith,
+  still_more c.loop-k.invariant.1 c.loop-k-test.true c.byte.ensures.0 c.image-next.ensures c.if-next-eq0.false,
+)
 
 pub returns : goal.returns
 returns c = still_all c.loop-k.invariant.1 (omega arith)

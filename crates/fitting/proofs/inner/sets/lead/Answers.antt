@@ -10,7 +10,7 @@ pub returns-then-from-eq0 : goal.returns-then-from-eq0
 returns-then-from-eq0 c = leads_empty c.loop-k.invariant.1 c.if-from-eq0.true
 
 pub image-from-requires : goal.image-from-requires
-image-from-requires c = let p = c in let e = c.byte.ensures.0 in (p.requires.0, rw e (letter_at_lem 64 p.args.w.now p.requires.1 _ (omega arith)))
+image-from-requires c = let e = c.byte.ensures.0 in (c.requires.0, rw e (letter_at_lem 64 c.args.w.now c.requires.1 _ (omega arith)))
 
 pub loop-k-preserved : goal.loop-k-preserved
 loop-k-preserved c = let i = c.loop-k in (omega arith, leads_more i.invariant.1 _ (omega arith) (omega arith) c.byte.ensures.0 c.image-from.ensures)

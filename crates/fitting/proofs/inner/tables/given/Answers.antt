@@ -6,13 +6,13 @@ use Rattle.mealy.proofs.Words.{holds_shifted}
 use Rattle.fitting.proofs.inner.tables.given.Goals as goal
 
 pub overflow_cast-result : goal.overflow_cast-result
-overflow_cast-result c = let a = c in omega (arith, a.requires.1 a.args.p)
+overflow_cast-result c = omega (arith, c.requires.1 c.args.p)
 
 pub overflow_shl-result : goal.overflow_shl-result
-overflow_shl-result c = let a = c in a.requires.1 a.args.p
+overflow_shl-result c = c.requires.1 c.args.p
 
 pub returns-then-p-inputs : goal.returns-then-p-inputs
-returns-then-p-inputs c = let a = c in holds_shifted _ (a.requires.1 a.args.p) (c.if-p-inputs.true, refl) (λ y g. sym g.1)
+returns-then-p-inputs c = holds_shifted _ (c.requires.1 c.args.p) (c.if-p-inputs.true, refl) (λ y g. sym g.1)
 
 pub returns-else-p-inputs : goal.returns-else-p-inputs
 returns-else-p-inputs c = holds_none (λ y g. let l = g.0 in let m = c.if-p-inputs.false in omega arith)

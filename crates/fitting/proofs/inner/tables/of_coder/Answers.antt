@@ -5,30 +5,24 @@ use Rattle.fitting.proofs.inner.tables.of_coder.Goals as goal
 
 pub by_output-requires : goal.by_output-requires
 by_output-requires c =
-    let p = c in
-    let s = p.requires in
-    rw p.parts-own.ensures (entries_asked s _ _ (parts_high false) (next_low s))
+    let s = c.requires in
+    rw c.parts-own.ensures (entries_asked s _ _ (parts_high false) (next_low s))
 
 pub by_output-requires-2 : goal.by_output-requires-2
 by_output-requires-2 c =
-    let p = c in
-    let s = p.requires in
-    rw p.parts-own.ensures (entries_asked s _ _ (next_low s) (parts_high false))
+    let s = c.requires in
+    rw c.parts-own.ensures (entries_asked s _ _ (next_low s) (parts_high false))
 
 pub by_output-requires-3 : goal.by_output-requires-3
 by_output-requires-3 c =
-    let p = c in
-    let s = p.requires in
-    rw (p.parts-own.ensures, p.parts-letters.ensures) (entries_asked s _ _ (parts_high false) (parts_high true))
+    let s = c.requires in
+    rw (c.parts-own.ensures, c.parts-letters.ensures) (entries_asked s _ _ (parts_high false) (parts_high true))
 
 pub returns : goal.returns
 returns c =
-    let second = c in
-    let first = second in
-    let p = first in
-    let e = p.parts-own.ensures in
+    let e = c.parts-own.ensures in
     record {
-      successors_are = rw e at first.by_output.ensures;
-      predecessors_are = rw e at second.by_output-2.ensures;
-      letters_are = rw (e, p.parts-letters.ensures) at c.by_output-3.ensures;
+      successors_are = rw e at c.by_output.ensures;
+      predecessors_are = rw e at c.by_output-2.ensures;
+      letters_are = rw (e, c.parts-letters.ensures) at c.by_output-3.ensures;
     }

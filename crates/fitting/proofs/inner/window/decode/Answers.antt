@@ -13,14 +13,9 @@ how_far-requires c =
 
 pub returns-then-fit-eq0 : goal.returns-then-fit-eq0
 returns-then-fit-eq0 c = λ d k.
-    let n = c in
-    let f = n in
-    let p = f in
-    decoded_in k p.args.window.now p.args.b p.requires.1 p.requires.2 (rw n.if-fit-eq0.true at f.fitting-fit.ensures)
+    decoded_in k c.args.window.now c.args.b c.requires.1 c.requires.2 (rw c.if-fit-eq0.true at c.fitting-fit.ensures)
     (λ z. c.how_far.ensures)
 
 pub returns : goal.returns
 returns c = λ d k.
-    let f = c in
-    let p = f in
-    decoded_in k p.args.window.now p.args.b p.requires.1 p.requires.2 f.fitting-fit.ensures (λ z. absurd (c.if-fit-eq0.false z))
+    decoded_in k c.args.window.now c.args.b c.requires.1 c.requires.2 c.fitting-fit.ensures (λ z. absurd (c.if-fit-eq0.false z))

@@ -12,7 +12,6 @@ returns-then-after-eq0 c =
 pub returns : goal.returns
 returns c =
     λ s k.
-    let p = c in
-    let a = p.args in
+    let a = c.args in
     here_between a.next.now s a.letters.now a.o (Has a.set) a.after.now a.predecessors.now k
-    p.requires.after_letters c.lead.ensures c.between.ensures
+    c.requires.after_letters c.lead.ensures c.between.ensures

@@ -85,8 +85,7 @@ loop-less c = omega arith
 
 loop-again : tie.Need-loop-k-preserved invariant_loop decreases_loop
 loop-again c =
-    let l = c.loop-k in
-    (
+    let l = c.loop-k in (
       rw c.entry-u.ensures.0 (next_low c.requires _ _),
       rw c.entry-v.ensures.0 (next_low c.requires _ _),
       λ d p w.

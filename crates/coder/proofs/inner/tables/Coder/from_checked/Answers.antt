@@ -6,23 +6,22 @@ use Rattle.coder.proofs.Accepted.{accepted, file_entries}
 use Rattle.coder.proofs.inner.tables.Coder.from_checked.Goals as goal
 
 pub byte-requires : goal.byte-requires
-byte-requires c = omega (arith, accepted _ c.before.requires)
+byte-requires c = omega (arith, accepted _ c.requires)
 
 pub byte-requires-2 : goal.byte-requires-2
-byte-requires-2 c = omega (arith, accepted _ c.before.before.requires)
+byte-requires-2 c = omega (arith, accepted _ c.requires)
 
 pub byte-requires-3 : goal.byte-requires-3
-byte-requires-3 c = omega (arith, accepted _ c.before.before.before.requires)
+byte-requires-3 c = omega (arith, accepted _ c.requires)
 
 pub entries-requires : goal.entries-requires
-entries-requires c = omega (arith, accepted _ c.before.before.before.before.requires)
+entries-requires c = omega (arith, accepted _ c.requires)
 
 pub from_entries-requires : goal.from_entries-requires
-from_entries-requires c = let z = file_entries _ c.before.before.before.before.before.requires in cc
+from_entries-requires c = let z = file_entries _ c.requires in cc
 
 pub returns : goal.returns
 returns c =
-    let b = c.before.before in
     c.from_entries.ensures
-    ∙ coder_is _ _ _ _ _ b.before.before.byte.ensures.0 b.before.byte-2.ensures.0 b.byte-3.ensures.0
-    c.before.entries.ensures.result_value
+    ∙ coder_is _ _ _ _ _ c.byte.ensures.0 c.byte-2.ensures.0 c.byte-3.ensures.0
+    c.entries.ensures.result_value
