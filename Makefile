@@ -1,18 +1,18 @@
 # make alone and make help print the lines that begin with '#:'.
-#: make TARGET, and the time that it takes on two idle cores. From nothing: with an empty target/.
+#: make TARGET, and the time that it takes on four idle cores. From nothing: with no target/ and no folder out/ of a crate.
 #: Where no source is newer than what was built, only test proves again.
 #:
 #:   help                 this list
-#:   report               the program target/bin/report, run on an example: 1 to 2 minutes from nothing, else seconds
+#:   report               the program target/bin/report, run on an example: TIME_PART from nothing, else seconds
 #:   lib                  the static library for a host in C, with include/lowhenita.h: the same
 #:   examples             the library and the example hosts, run on examples: the same
 #:   install              library, header, program, manual page and pkg-config file below PREFIX, /usr/local if none is given: the same
 #:   uninstall            removes these files; nothing is built for it
-#:   check                proves every crate and runs every test, but tries no must-fail edit: 5 minutes from nothing, else about 2
-#:   test                 the gate: removes target/, proves every crate, tries every must-fail edit, runs every test: about 23 minutes
+#:   check                proves every crate and runs every test, but tries no must-fail edit: TIME_CHECK from nothing, else about 2
+#:   test                 the gate: proves every crate from nothing, tries every must-fail edit, runs every test: TIME_TEST
 #:   bench                the library and its times beside plain C: 25 seconds more than lib
 #:   target/lowhenita.pc  the pkg-config file; nothing is built for it
-#:   clean                removes target/: all that is built, and what is known of proved crates
+#:   clean                removes target/ and each crate's out/: all that is built, and what checks have kept
 PREFIX = /usr/local
 PC_FILE = target/lowhenita.pc
 VERSION := $(shell sed -n 's/^\#define LOWHENITA_VERSION "\(.*\)"$$/\1/p' include/lowhenita.h)
@@ -20,9 +20,9 @@ CC = gcc
 LIBRARY = target/staticlib/liblowhenita.a
 REPORT = target/bin/report
 
-# What the two are built from: the crates without their must-fail edits. The folders are among them, so that a file that is gone counts.
-# With another toolchain run make clean first.
-SOURCES := crates.txt $(shell find crates -name must-fail -prune -o \( -type d -o -type f \) -print)
+# What the two are built from: the crates without their must-fail edits and without out/, which checks write. The folders are among them, so
+# that a file that is gone counts. With another toolchain run make clean first.
+SOURCES := crates.txt $(shell find crates -mindepth 2 \( -name must-fail -o -name out \) -prune -o \( -type d -o -type f \) -print)
 
 .PHONY: help test check report lib examples $(PC_FILE) install uninstall bench clean
 .DELETE_ON_ERROR:
@@ -35,9 +35,9 @@ test:
 	.ci/run
 
 check:
-	rt fmt --check
-	rt check
-	$(MAKE) lib
+	rt all check
+	$(MAKE) lib report
+	tools/build cases
 	tests/host/run
 	tests/report/run
 	tests/examples/run
@@ -48,13 +48,11 @@ report: $(REPORT)
 
 lib: $(LIBRARY)
 
-# rt goes by what the files hold and make by their times: the program that rt finds up to date gets the time of now.
 $(REPORT): $(SOURCES)
-	rt check report
-	touch -c $@
+	tools/build report
 
 $(LIBRARY): $(SOURCES)
-	rt staticlib lowhenita
+	tools/build library
 
 examples: $(LIBRARY)
 	@for c in 'gcc -std=c99' 'clang -std=c99' 'g++ -x c++' 'clang++ -x c++'; do \
@@ -100,4 +98,4 @@ bench: $(LIBRARY)
 	target/bench
 
 clean:
-	rm -rf target
+	rm -rf target crates/*/out
