@@ -10,7 +10,6 @@ use lib.Seq.{length-take-le}
 use Rattle.mealy.specs.Answer.{byte_of}
 use Rattle.mealy.specs.Index.{window_at}
 use Rattle.mealy.proofs.Indices.{length_window}
-use Rattle.coder.specs.Refusal.{answer}
 use Rattle.coder.specs.File.{file_refusal, outputs_of, setting_after}
 use Rattle.fitting.specs.Answer.{meaning, RightByte}
 use Rattle.fitting.proofs.Answers.{right_unique, right_byte, right_byte_unique}

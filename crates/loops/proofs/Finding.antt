@@ -7,7 +7,6 @@ use lib.ListN.{length, get_or, drop, length-drop}
 use lib.Seq.{ext_get_or, get_or-drop}
 use Rattle.mealy.specs.Machine.{Machine, Total}
 use Rattle.mealy.specs.Setting.{Setting, Bounded}
-use Rattle.mealy.specs.LoopedPair.{mark}
 use Rattle.coder.specs.Table.{machine_of_coder}
 use Rattle.coder.specs.declared.inner.tables.Coder.{Coder}
 use Rattle.values.specs.Pair.{pair_of}

@@ -5,7 +5,7 @@ use mathlib.Core.Bool.{true, false}
 use mathlib.Core.List.{List, [], ◌∷◌}
 use Prim.Native.Nat.{ℕ}
 use Rattle.values.specs.declared.Window.{Window}
-use Rattle.published.specs.Published.{without, order, follows, Bytes, start_rule, settle_rule, number_rule, table_rule, buffers_rule}
+use Rattle.published.specs.Published.{without, order, order_in_row, follows, Bytes, start_rule, settle_rule, number_rule, table_rule, buffers_rule}
 use Rattle.published.specs.Published.{inputs_rule, received_rule, file_rules, parts_rules, window_rules, kinds_rule, sides_rule}
 use Rattle.published.specs.Published.{first_number, row_rule, given_join}
 use Rattle.published.specs.Alphabet.{parity}
@@ -51,20 +51,20 @@ unfolding follows
 kinds_before_start = refl
 
 -- 17 after 10 and before 11
-pub row_after_table : follows (15 ∷ 10 ∷ 17 ∷ 11 ∷ []) order ≡ true
+pub row_after_table : follows (15 ∷ 10 ∷ 17 ∷ 11 ∷ []) order_in_row ≡ true
 unfolding follows
 row_after_table = refl
 
-pub row_after_buffers : follows (11 ∷ 17 ∷ []) order ≡ false
+pub row_after_buffers : follows (11 ∷ 17 ∷ []) order_in_row ≡ false
 unfolding follows
 row_after_buffers = refl
 
-pub row_before_table : follows (17 ∷ 10 ∷ []) order ≡ false
+pub row_before_table : follows (17 ∷ 10 ∷ []) order_in_row ≡ false
 unfolding follows
 row_before_table = refl
 
 -- the numbers of a second file do not go on with the order, but begin it again
-pub second_file : follows (15 ∷ 1 ∷ []) order ≡ false
+pub second_file : follows (15 ∷ 1 ∷ []) order_in_row ≡ false
 unfolding follows
 second_file = refl
 

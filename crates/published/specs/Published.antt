@@ -192,10 +192,14 @@ given_join f g before others = file_rules f ++ given_second f g before others
 abbrev pub result_given : List ℕ → List Bytes
 result_given result = lent result 64 ∷ []
 
--- ---- the order of the numbers, once
+-- ---- the order of the numbers
 
 abbrev pub order : List ℕ
-order = 1 ∷ 2 ∷ 3 ∷ 4 ∷ 5 ∷ 6 ∷ 15 ∷ 7 ∷ 16 ∷ 8 ∷ 14 ∷ 9 ∷ 10 ∷ 17 ∷ 11 ∷ 12 ∷ 13 ∷ []
+order = 1 ∷ 2 ∷ 3 ∷ 4 ∷ 5 ∷ 6 ∷ 15 ∷ 7 ∷ 16 ∷ 8 ∷ 14 ∷ 9 ∷ 10 ∷ 11 ∷ 12 ∷ 13 ∷ []
+
+-- the same with 17, which a call that is given two files has besides
+abbrev pub order_in_row : List ℕ
+order_in_row = 1 ∷ 2 ∷ 3 ∷ 4 ∷ 5 ∷ 6 ∷ 15 ∷ 7 ∷ 16 ∷ 8 ∷ 14 ∷ 9 ∷ 10 ∷ 17 ∷ 11 ∷ 12 ∷ 13 ∷ []
 
 abbrev pub numbers_of : List Rule → List ℕ
 numbers_of [] = []
@@ -225,4 +229,4 @@ pub record CallsInOrder : Type 0 where
       (f kinds : List ℕ) (b a : ℕ) (received : List ℕ) (others : List Bytes) → InOrder (given_window_kinds f kinds b a received others)
   pub write : (n i o : ℕ) (entries before : List ℕ) (others : List Bytes) → InOrder (given_write n i o entries before others)
   -- of two files, all numbers of the first, which `file` has, come before those from the second on
-  pub join : (f g before : List ℕ) (others : List Bytes) → InOrder (given_second f g before others)
+  pub join : (f g before : List ℕ) (others : List Bytes) → follows (numbers_of (given_second f g before others)) order_in_row ≡ true

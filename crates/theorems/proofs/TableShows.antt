@@ -14,13 +14,11 @@ use Rattle.mealy.specs.Index.{index_of, window_at}
 use Rattle.mealy.proofs.Indices.{length_window, index_below, index_window}
 use Rattle.mealy.proofs.Answers.{answer_unique}
 use Rattle.mealy.proofs.RunParts.{length_outs}
-use Rattle.coder.specs.Refusal.{answer}
 use Rattle.coder.specs.File.{outputs_of, machine_of}
 use Rattle.coder.proofs.Accepted.{Accepted, accepted}
 use Rattle.coder.proofs.Tables.{output_below}
 use Rattle.values.specs.Window.{size}
 use Rattle.values.specs.declared.Window.{Window}
-use Rattle.values.specs.declared.CountResult as count
 use Rattle.decoder_refusal.specs.Refusal.{table_size, table_refusal_in}
 use Rattle.decoder.specs.Window.{window_setting}
 use Rattle.decoder.specs.Table.{EntryOf}

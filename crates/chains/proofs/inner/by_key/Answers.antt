@@ -1,6 +1,5 @@
 use mathlib.Core.Path.{refl}
-use Prim.Native.Nat.{◌≤◌, ◌-◌}
-use Rattle.chains.proofs.Building.{ChainedBelow, below_none, below_skip, below_more, below_all}
+use Rattle.chains.proofs.Building.{below_none, below_skip, below_more, below_all}
 use Rattle.chains.proofs.Entries.{is_entry_lem, past_inputs}
 use borrow.Author.Rules.{rules}
 use native.Mathlib.Omega.{arith}

@@ -1,6 +1,6 @@
 -- `by_key` meets its contract. The entries below place p are chained.
 use Prim.Native.Nat.{◌≤◌, ◌-◌}
-use Rattle.chains.proofs.Building.{ChainedBelow, below_none, below_skip, below_more, below_all}
+use Rattle.chains.proofs.Building.{ChainedBelow}
 use Rattle.chains.proofs.inner.by_key.Given as goal
 
 abbrev pub invariant-loop-p : goal.invariant-loop-p

@@ -1,8 +1,7 @@
 use mathlib.Core.Path.{refl}
-use Prim.Native.Nat.{◌≤◌, ◌-◌}
 use borrow.Author.Rules.{rules}
 use native.Mathlib.Omega.{arith}
-use Rattle.coder.proofs.Fill.{Filled, filled_none, filled_more, filled_all}
+use Rattle.coder.proofs.Fill.{filled_none, filled_more, filled_all}
 use Rattle.chains.proofs.inner.parts.Goals as goal
 
 pub loop-p-init : goal.loop-p-init

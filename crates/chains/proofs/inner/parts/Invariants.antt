@@ -1,7 +1,7 @@
 -- `parts` meets its contract: the first p places are set.
 use Prim.Native.Nat.{◌≤◌, ◌-◌}
 use Rattle.chains.specs.Parts.{place_part}
-use Rattle.coder.proofs.Fill.{Filled, filled_none, filled_more, filled_all}
+use Rattle.coder.proofs.Fill.{Filled}
 use Rattle.chains.proofs.inner.parts.Given as goal
 
 abbrev pub invariant-loop-p : goal.invariant-loop-p

@@ -1,6 +1,6 @@
-use mathlib.Core.Path.{◌≡◌, refl}
-use Prim.Native.Nat.{◌*◌, ◌-◌, ◌≤◌, ◌<◌}
-use Rattle.chains.proofs.Rows.{RowedBelow, Walking, rowed_none, rowed_all, walk_none, walk_room, walk_less, walk_more, walk_all}
+use mathlib.Core.Path.{refl}
+use Prim.Native.Nat.{◌-◌}
+use Rattle.chains.proofs.Rows.{rowed_none, rowed_all, walk_none, walk_room, walk_less, walk_more, walk_all}
 use borrow.Author.Rules.{rules}
 use native.Mathlib.Omega.{arith}
 use Rattle.chains.proofs.inner.rows_by_key.Goals as goal

@@ -1,9 +1,9 @@
 -- `rows_by_key` meets its contract. The rows of the keys below k are laid out; inside, the walk along the chain of k has come to the
 -- entry with number q.
-use mathlib.Core.Path.{◌≡◌, refl}
+use mathlib.Core.Path.{◌≡◌}
 use Prim.Native.Nat.{◌*◌, ◌-◌, ◌≤◌, ◌<◌}
 use lib.ListN.{get_or}
-use Rattle.chains.proofs.Rows.{RowedBelow, Walking, rowed_none, rowed_all, walk_none, walk_room, walk_less, walk_more, walk_all}
+use Rattle.chains.proofs.Rows.{RowedBelow, Walking}
 use Rattle.chains.proofs.inner.rows_by_key.Given as goal
 
 abbrev pub invariant-loop-q : goal.invariant-loop-q

@@ -1,9 +1,9 @@
 -- `put_fields` meets its contract. The loop's invariant: the first k numbers stand in front, and the bytes past them are the old ones.
-use mathlib.Core.Path.{◌≡◌, refl, ap, ◌∙◌}
-use mathlib.Core.List.{List, ◌++◌}
-use Prim.Native.Nat.{ℕ, ◌≤◌, ◌*◌, ◌-◌}
-use lib.ListN.{length, get_or, take, drop}
-use Rattle.layout.specs.Layout.{field, fields_of}
+use mathlib.Core.Path.{◌≡◌}
+use mathlib.Core.List.{◌++◌}
+use Prim.Native.Nat.{◌≤◌, ◌*◌, ◌-◌}
+use lib.ListN.{length, take, drop}
+use Rattle.layout.specs.Layout.{fields_of}
 use Rattle.layout.proofs.inner.put_fields.Given as goal
 
 abbrev pub invariant-loop-k : goal.invariant-loop-k

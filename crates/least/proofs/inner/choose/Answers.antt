@@ -1,6 +1,6 @@
 use mathlib.Core.Path.{refl, sym, ◌∙◌}
 use Rattle.values.proofs.Orders.{is_order, no_later_lem, later}
-use Rattle.least.proofs.Choosing.{FirstFrom, first_start, first_stays, first_changes}
+use Rattle.least.proofs.Choosing.{first_start, first_stays, first_changes}
 use borrow.Author.Rules.{rules}
 use native.Mathlib.Omega.{arith}
 use Rattle.least.proofs.inner.choose.Goals as goal

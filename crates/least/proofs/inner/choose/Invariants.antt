@@ -2,7 +2,7 @@
 use Prim.Native.Nat.{◌≤◌}
 use Rattle.coder.specs.Limits.{max_side}
 use Rattle.values.specs.Order.{relation_of}
-use Rattle.least.proofs.Choosing.{FirstFrom, first_start, first_stays, first_changes}
+use Rattle.least.proofs.Choosing.{FirstFrom}
 use Rattle.least.proofs.inner.choose.Given as goal
 
 abbrev pub invariant-loop-a : goal.invariant-loop-a

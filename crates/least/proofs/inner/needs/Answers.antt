@@ -1,5 +1,5 @@
 use mathlib.Core.Path.{refl}
-use Rattle.least.proofs.Choosing.{NeedsFrom, needs_start, needs_more}
+use Rattle.least.proofs.Choosing.{needs_start, needs_more}
 use borrow.Author.Rules.{rules}
 use native.Mathlib.Omega.{arith}
 use Rattle.least.proofs.inner.needs.Goals as goal

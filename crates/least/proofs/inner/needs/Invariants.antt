@@ -1,7 +1,7 @@
 -- `rules` meets its contract. From f on every place has the most that the table has past it.
 use Prim.Native.Nat.{◌≤◌}
 use Rattle.product.specs.Depth.{endless}
-use Rattle.least.proofs.Choosing.{NeedsFrom, needs_start, needs_more}
+use Rattle.least.proofs.Choosing.{NeedsFrom}
 use Rattle.least.proofs.inner.needs.Given as goal
 
 abbrev pub invariant-loop-f : goal.invariant-loop-f

@@ -1,6 +1,6 @@
 use native.Mathlib.Omega.{arith}
-use Prim.Native.Nat.{◌-◌, ◌/◌, ◌%◌, ◌≤◌, ◌<◌}
-use Rattle.letters.proofs.Choosing.{NoneBelow, none_yet, none_more, not_below, lowest_number}
+use Prim.Native.Nat.{◌<◌}
+use Rattle.letters.proofs.Choosing.{none_yet, none_more, not_below, lowest_number}
 use Rattle.letters.proofs.inner.lowest.Goals as goal
 
 pub loop-k-init : goal.loop-k-init

@@ -1,7 +1,7 @@
 -- `lowest` meets its contract. Invariant: no letters with a number below k are on such an edge.
-use Prim.Native.Nat.{◌-◌, ◌/◌, ◌%◌, ◌≤◌, ◌<◌}
+use Prim.Native.Nat.{◌-◌, ◌/◌, ◌%◌, ◌≤◌}
 use Rattle.letters.specs.Walk.{EdgeTo}
-use Rattle.letters.proofs.Choosing.{NoneBelow, none_yet, none_more, not_below, lowest_number}
+use Rattle.letters.proofs.Choosing.{NoneBelow}
 use Rattle.letters.proofs.inner.lowest.Given as goal
 
 abbrev pub invariant-loop-k : goal.invariant-loop-k

@@ -1,7 +1,6 @@
-use Prim.Native.Nat.{◌+◌, ◌*◌, ◌-◌, ◌<◌, ◌≤◌}
+use Prim.Native.Nat.{◌+◌, ◌*◌, ◌<◌}
 use lib.ListN.{length, take}
 use Rattle.placing.proofs.Placing.{written_then}
-use Rattle.pair_text.specs.Lines.{spaced}
 use Rattle.pair_text.proofs.Spaced.{spaced_none, spaced_more, spaced_all, two_length, room_more}
 use Rattle.pair_text.proofs.Lengths.{letters_length}
 use borrow.Author.Rules.{rules}

@@ -1,6 +1,6 @@
 -- `letters_line` meets its contract: before round i the first i letters are written, two bytes each.
 use mathlib.Core.Path.{◌≡◌}
-use Prim.Native.Nat.{◌+◌, ◌*◌, ◌-◌, ◌<◌, ◌≤◌}
+use Prim.Native.Nat.{◌*◌, ◌-◌, ◌≤◌}
 use lib.ListN.{length, take}
 use Rattle.placing.specs.Placed.{Placed}
 use Rattle.pair_text.specs.Lines.{spaced}

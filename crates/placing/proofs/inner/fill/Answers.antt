@@ -1,5 +1,5 @@
 use mathlib.Core.Path.{◌≡◌}
-use Prim.Native.Nat.{◌≤◌, ◌-◌}
+use Prim.Native.Nat.{◌-◌}
 use Rattle.placing.proofs.Placing.{fill_none, fill_more, fill_all}
 use borrow.Author.Rules.{rules}
 use native.Mathlib.Omega.{arith}

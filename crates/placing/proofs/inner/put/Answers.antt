@@ -1,5 +1,4 @@
-use mathlib.Core.Path.{◌≡◌, refl}
-use Prim.Native.Nat.{◌+◌, ◌≤◌, ◌-◌}
+use mathlib.Core.Path.{refl}
 use Rattle.placing.proofs.Placing.{slice_more, slice_all}
 use borrow.Author.Rules.{rules}
 use native.Mathlib.Omega.{arith}

@@ -1,5 +1,5 @@
 -- `put` meets its contract: before round i the first i bytes are written.
-use mathlib.Core.Path.{◌≡◌, refl}
+use mathlib.Core.Path.{◌≡◌}
 use Prim.Native.Nat.{◌+◌, ◌≤◌, ◌-◌}
 use lib.ListN.{length, take}
 use Rattle.placing.specs.Placed.{Placed}

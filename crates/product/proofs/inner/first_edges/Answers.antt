@@ -1,6 +1,5 @@
-use mathlib.Core.Path.{◌≡◌, refl}
-use Prim.Native.Nat.{◌≤◌, ◌-◌, ◌*◌}
-use Rattle.product.proofs.Beginning.{FirstEdgesTo, edges_start, edges_more, edges_all}
+use mathlib.Core.Path.{refl}
+use Rattle.product.proofs.Beginning.{edges_start, edges_more, edges_all}
 use borrow.Author.Rules.{rules}
 use native.Mathlib.Omega.{arith}
 use Rattle.product.proofs.inner.first_edges.Goals as goal

@@ -1,7 +1,7 @@
 -- `first_edges` meets its contract. The first a places are set.
-use mathlib.Core.Path.{◌≡◌, refl}
+use mathlib.Core.Path.{◌≡◌}
 use Prim.Native.Nat.{◌≤◌, ◌-◌, ◌*◌}
-use Rattle.product.proofs.Beginning.{FirstEdgesTo, edges_start, edges_more, edges_all}
+use Rattle.product.proofs.Beginning.{FirstEdgesTo}
 use Rattle.product.proofs.inner.first_edges.Given as goal
 
 abbrev pub invariant-loop-a : goal.invariant-loop-a

@@ -1,6 +1,5 @@
-use mathlib.Core.Path.{◌≡◌, refl}
-use Prim.Native.Nat.{◌≤◌, ◌-◌, ◌*◌}
-use Rattle.product.proofs.Beginning.{FilledTo, filled_start, filled_put, filled_skip, filled_yes, filled_no}
+use mathlib.Core.Path.{refl}
+use Rattle.product.proofs.Beginning.{filled_start, filled_put, filled_skip, filled_yes, filled_no}
 use borrow.Author.Rules.{rules}
 use native.Mathlib.Omega.{arith}
 use Rattle.product.proofs.inner.start_square.Goals as goal

@@ -1,8 +1,8 @@
 -- `start_square` meets its contract. The first a places are set, the others are 0.
-use mathlib.Core.Path.{◌≡◌, refl}
+use mathlib.Core.Path.{◌≡◌}
 use Prim.Native.Nat.{◌≤◌, ◌-◌, ◌*◌}
 use Rattle.product.specs.Rounds.{BothStart}
-use Rattle.product.proofs.Beginning.{FilledTo, filled_start, filled_put, filled_skip, filled_yes, filled_no}
+use Rattle.product.proofs.Beginning.{FilledTo}
 use Rattle.product.proofs.inner.start_square.Given as goal
 
 abbrev pub invariant-loop-a : goal.invariant-loop-a

@@ -1,10 +1,7 @@
-use mathlib.Core.Bool.{true}
 use mathlib.Core.Path.{◌≡◌, sym}
-use Prim.Native.Nat.{◌≤◌, ◌-◌}
 use native.Mathlib.Omega.{arith}
 use borrow.Author.Rules.{rules}
 use Rattle.coder.specs.Refusal.{all_below}
-use Rattle.coder.specs.File.{entry_in_range}
 use Rattle.coder.proofs.Refusals.{all_more, all_not, via}
 use Rattle.reader.proofs.inner.entries_in_range.Goals as goal
 

@@ -1,6 +1,6 @@
 -- `entries_in_range` meets its contract. The entries below j are in range.
 use mathlib.Core.Bool.{true}
-use mathlib.Core.Path.{◌≡◌, sym}
+use mathlib.Core.Path.{◌≡◌}
 use Prim.Native.Nat.{◌≤◌, ◌-◌}
 use Rattle.coder.specs.Refusal.{all_below}
 use Rattle.coder.specs.File.{entry_in_range}

@@ -1,8 +1,8 @@
 use mathlib.Core.Path.{refl, ◌≡◌, ap}
-use Prim.Native.Nat.{◌<◌, ◌≤◌, ◌-◌, ◌^◌}
+use Prim.Native.Nat.{◌<◌, ◌-◌}
 use native.Mathlib.Omega.{arith}
 use Rattle.mealy.proofs.Words.{shifted}
-use Rattle.coder.proofs.Fill.{Filled, filled_none, filled_more}
+use Rattle.coder.proofs.Fill.{filled_none, filled_more}
 use Rattle.setting.proofs.Numbers.{made_all}
 use Rattle.setting.proofs.inner.different_letters.Goals as goal
 

@@ -1,6 +1,6 @@
 -- `different_letters` meets its contract: the first i words are made.
-use Prim.Native.Nat.{◌<◌, ◌≤◌, ◌-◌, ◌^◌}
-use Rattle.coder.proofs.Fill.{Filled, filled_none, filled_more}
+use Prim.Native.Nat.{◌≤◌, ◌-◌, ◌^◌}
+use Rattle.coder.proofs.Fill.{Filled}
 use Rattle.setting.proofs.inner.different_letters.Given as goal
 
 abbrev pub invariant-loop-i : goal.invariant-loop-i

@@ -1,5 +1,4 @@
 use mathlib.Core.Path.{◌≡◌}
-use Prim.Native.Nat.{◌-◌, ◌≤◌}
 use native.Mathlib.Omega.{arith}
 use Rattle.starts.proofs.After.{settle_first, settle_more, settle_same}
 use Rattle.starts.proofs.inner.after.Goals as goal

@@ -1,6 +1,5 @@
-use Prim.Native.Nat.{◌-◌, ◌≤◌}
 use native.Mathlib.Omega.{arith}
-use Rattle.starts.proofs.Closure.{SoFar, so_far_first, so_far_more, so_far_same, so_far_end}
+use Rattle.starts.proofs.Closure.{so_far_first, so_far_more, so_far_same, so_far_end}
 use Rattle.starts.proofs.inner.closure.Goals as goal
 
 pub loop-k-init : goal.loop-k-init

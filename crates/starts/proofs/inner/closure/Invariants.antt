@@ -1,7 +1,7 @@
 -- `closure` meets its contract: after k - 1 steps the set has the states within as many of state 0; these are all where a step adds none,
 -- and at the end.
 use Prim.Native.Nat.{◌-◌, ◌≤◌}
-use Rattle.starts.proofs.Closure.{SoFar, so_far_first, so_far_more, so_far_same, so_far_end}
+use Rattle.starts.proofs.Closure.{SoFar}
 use Rattle.starts.proofs.inner.closure.Given as goal
 
 abbrev pub invariant-loop-k : goal.invariant-loop-k

@@ -1,6 +1,5 @@
 -- `allowed` meets its contract: each line of the match is a case.
 use mathlib.Core.Path.{◌≡◌, refl, sym}
-use Prim.Native.Nat.{ℕ, ◌≤◌, ◌<◌}
 use native.Mathlib.Omega.{arith}
 use Rattle.table_size.specs.Cases.{table_cases, table_allowed}
 use Rattle.table_size.proofs.Cases.{at_case, past_cases}

@@ -1,6 +1,6 @@
 -- `size` meets its contract: before each turn the size is that of i letters.
-use mathlib.Core.Path.{◌≡◌, sym, ap, ◌∙◌}
-use Prim.Native.Nat.{◌+◌, ◌*◌, ◌≤◌, ◌-◌, ◌^◌}
+use mathlib.Core.Path.{◌≡◌}
+use Prim.Native.Nat.{◌≤◌, ◌-◌, ◌^◌}
 use Rattle.table_size.proofs.inner.size.Given as goal
 
 abbrev pub invariant-loop-i : goal.invariant-loop-i

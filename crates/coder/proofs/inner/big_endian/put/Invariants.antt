@@ -1,7 +1,7 @@
 -- `big_endian::put` meets its contract. With the digits of rest stored in the bytes left, all is as asked.
-use mathlib.Core.Path.{◌≡◌, refl, ◌∙◌}
+use mathlib.Core.Path.{◌≡◌}
 use Prim.Native.Nat.{◌≤◌}
-use lib.ListN.{length, length-set}
+use lib.ListN.{length}
 use lib.Seq.{sets}
 use Rattle.coder.specs.BigEndian.{big_endian}
 use Rattle.coder.proofs.inner.big_endian.put.Given as goal

@@ -1,5 +1,5 @@
 -- `letters_below` meets its contract. The test of all letters is that of the letters from place k on.
-use mathlib.Core.Path.{◌≡◌, refl, sym, ◌∙◌}
+use mathlib.Core.Path.{◌≡◌}
 use Prim.Native.Nat.{◌≤◌, ◌-◌}
 use lib.ListN.{length, drop}
 use Rattle.coder.specs.Refusal.{letters_below}

@@ -1,9 +1,8 @@
-use mathlib.Core.Path.{◌≡◌, refl, sym, ◌∙◌}
-use Prim.Native.Nat.{◌*◌, ◌≤◌, ◌-◌, ◌/◌, ◌%◌}
+use mathlib.Core.Path.{refl, sym, ◌∙◌}
 use native.Mathlib.Omega.{arith}
 use borrow.Author.Rules.{rules}
 use Rattle.coder.proofs.Tables.{no_entry_from}
-use Rattle.coder.proofs.Fill.{Filled, get_or_zeros, filled_none, filled_more, filled_all}
+use Rattle.coder.proofs.Fill.{get_or_zeros, filled_none, filled_more, filled_all}
 use Rattle.coder.proofs.inner.tables.entry_table.Goals as goal
 
 pub loop-k-init : goal.loop-k-init

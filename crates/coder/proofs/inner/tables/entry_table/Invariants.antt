@@ -1,8 +1,8 @@
 -- `entry_table` meets its contract. The table is filled below k; from 16 N on it holds 0, as there are no entries.
-use mathlib.Core.Path.{◌≡◌, refl, sym, ◌∙◌}
+use mathlib.Core.Path.{◌≡◌}
 use Prim.Native.Nat.{◌*◌, ◌≤◌, ◌-◌, ◌/◌, ◌%◌}
 use Rattle.coder.specs.File.{entry_of}
-use Rattle.coder.proofs.Fill.{Filled, get_or_zeros, filled_none, filled_more, filled_all}
+use Rattle.coder.proofs.Fill.{Filled}
 use Rattle.coder.proofs.inner.tables.entry_table.Given as goal
 
 abbrev pub invariant-loop-k : goal.invariant-loop-k

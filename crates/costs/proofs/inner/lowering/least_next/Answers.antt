@@ -1,5 +1,4 @@
 use mathlib.Core.Path.{◌≡◌}
-use Prim.Native.Nat.{◌-◌, ◌≤◌, ◌<◌}
 use native.Mathlib.Omega.{arith}
 use Rattle.first_pair.proofs.Capping.{below_none, below_one}
 use Rattle.costs.proofs.Lowering.{next_cost}

@@ -1,4 +1,4 @@
-use Rattle.costs.proofs.Lowering.{LoweringSoFar, measure, lowering_none, lowering_asked, lowering_more, lowering_less, lowering_done}
+use Rattle.costs.proofs.Lowering.{lowering_none, lowering_asked, lowering_more, lowering_less, lowering_done}
 use Rattle.costs.proofs.inner.lowering.lower_costs.Goals as goal
 
 pub loop-fell-init : goal.loop-fell-init

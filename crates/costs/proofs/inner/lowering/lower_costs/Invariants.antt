@@ -1,5 +1,5 @@
 -- `lower_costs` meets its contract: the sum of all costs falls until none falls.
-use Rattle.costs.proofs.Lowering.{LoweringSoFar, measure, lowering_none, lowering_asked, lowering_more, lowering_less, lowering_done}
+use Rattle.costs.proofs.Lowering.{LoweringSoFar, measure}
 use Rattle.costs.proofs.inner.lowering.lower_costs.Given as goal
 
 abbrev pub invariant-loop-fell : goal.invariant-loop-fell

@@ -1,5 +1,5 @@
 use native.Mathlib.Omega.{arith}
-use Rattle.costs.proofs.Lowering.{Passing, passing_none, passing_low, passing_high, passing_fell, passing_all}
+use Rattle.costs.proofs.Lowering.{passing_none, passing_low, passing_high, passing_fell, passing_all}
 use Rattle.costs.proofs.inner.lowering.pass.Goals as goal
 
 pub loop-a-init : goal.loop-a-init

@@ -1,5 +1,5 @@
 -- `pass` meets its contract: the pairs from a on are done.
-use Rattle.costs.proofs.Lowering.{Passing, passing_none, passing_low, passing_high, passing_fell, passing_all}
+use Rattle.costs.proofs.Lowering.{Passing}
 use Rattle.costs.proofs.inner.lowering.pass.Given as goal
 
 abbrev pub invariant-loop-a : goal.invariant-loop-a

@@ -1,8 +1,8 @@
-use Prim.Native.Nat.{◌+◌, ◌*◌, ◌-◌, ◌<◌, ◌≤◌}
+use Prim.Native.Nat.{◌+◌, ◌*◌}
 use mathlib.Core.Path.{◌≡◌}
 use native.Mathlib.Omega.{arith}
 use Rattle.first_pair.proofs.Capping.{below_none, below_one}
-use Rattle.costs.proofs.ConflictCosts.{OnFirst, on_first, on_conflict}
+use Rattle.costs.proofs.ConflictCosts.{on_first, on_conflict}
 use Rattle.costs.proofs.inner.marked.least_conflict.Goals as goal
 
 pub loop-i-init : goal.loop-i-init

@@ -1,8 +1,8 @@
 -- `least_conflict` meets its contract: the least over the first letters passed so far.
-use Prim.Native.Nat.{◌+◌, ◌*◌, ◌-◌, ◌<◌, ◌≤◌}
+use Prim.Native.Nat.{◌-◌, ◌<◌, ◌≤◌}
 use Rattle.mealy.specs.Image.{Image}
 use Rattle.first_pair.specs.Cost.{Capped}
-use Rattle.costs.proofs.ConflictCosts.{OnFirst, on_first, on_conflict}
+use Rattle.costs.proofs.ConflictCosts.{OnFirst}
 use Rattle.costs.proofs.inner.marked.least_conflict.Given as goal
 
 abbrev pub invariant-loop-i : goal.invariant-loop-i

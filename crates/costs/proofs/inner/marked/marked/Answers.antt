@@ -1,8 +1,7 @@
-use Prim.Native.Nat.{◌*◌, ◌-◌, ◌≤◌}
 use mathlib.Core.Path.{refl}
 use native.Mathlib.Omega.{arith}
 use Rattle.first_pair.proofs.Costs.{table_endless, table_set}
-use Rattle.costs.proofs.ConflictCosts.{PlaceCost, CostsBelow, costs_none, costs_more, edges_asked, marked_done}
+use Rattle.costs.proofs.ConflictCosts.{costs_none, costs_more, edges_asked, marked_done}
 use Rattle.costs.proofs.inner.marked.marked.Goals as goal
 
 pub loop-a-init : goal.loop-a-init

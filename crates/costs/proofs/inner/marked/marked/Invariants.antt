@@ -1,7 +1,7 @@
 -- `marked` meets its contract: the places passed so far have the costs.
 use Prim.Native.Nat.{◌*◌, ◌-◌, ◌≤◌}
 use Rattle.first_pair.specs.Cost.{CostTable}
-use Rattle.costs.proofs.ConflictCosts.{PlaceCost, CostsBelow, costs_none, costs_more, edges_asked, marked_done}
+use Rattle.costs.proofs.ConflictCosts.{PlaceCost, CostsBelow}
 use Rattle.costs.proofs.inner.marked.marked.Given as goal
 
 abbrev pub invariant-loop-a : goal.invariant-loop-a

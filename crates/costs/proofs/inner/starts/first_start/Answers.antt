@@ -1,7 +1,6 @@
 use native.Mathlib.Omega.{arith}
 use mathlib.Core.Path.{refl}
-use Prim.Native.Nat.{◌≤◌, ◌*◌, ◌-◌}
-use Rattle.costs.proofs.FirstStarts.{FirstBelow, start_none, start_kept, start_lower, start_found}
+use Rattle.costs.proofs.FirstStarts.{start_none, start_kept, start_lower, start_found}
 use Rattle.costs.proofs.inner.starts.first_start.Goals as goal
 
 pub loop-a-init : goal.loop-a-init

@@ -2,7 +2,7 @@
 use Prim.Native.Nat.{◌≤◌, ◌*◌, ◌-◌}
 use Rattle.first_pair.specs.Cost.{too_long}
 use Rattle.costs.specs.Starts.{total_of, StartPair}
-use Rattle.costs.proofs.FirstStarts.{FirstBelow, start_none, start_kept, start_lower, start_found}
+use Rattle.costs.proofs.FirstStarts.{FirstBelow}
 use Rattle.costs.proofs.inner.starts.first_start.Given as goal
 
 abbrev pub invariant-loop-a : goal.invariant-loop-a

@@ -1,5 +1,4 @@
-use Prim.Native.Nat.{◌-◌}
-use Rattle.cycles.proofs.Breadth.{Searched, searched_first, searched_more, searched_found, searched_limit, searched_ended}
+use Rattle.cycles.proofs.Breadth.{searched_first, searched_more, searched_found, searched_limit, searched_ended}
 use native.Mathlib.Omega.{arith}
 use Rattle.cycles.proofs.inner.closed.cycle.Goals as goal
 

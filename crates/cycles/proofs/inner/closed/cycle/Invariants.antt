@@ -1,6 +1,6 @@
 -- `cycle` meets its contract: the sets after k letters.
 use Prim.Native.Nat.{◌-◌}
-use Rattle.cycles.proofs.Breadth.{Searched, searched_first, searched_more, searched_found, searched_limit, searched_ended}
+use Rattle.cycles.proofs.Breadth.{Searched}
 use Rattle.cycles.proofs.inner.closed.cycle.Given as goal
 
 abbrev pub invariant-loop-some : goal.invariant-loop-some

@@ -1,6 +1,6 @@
-use Prim.Native.Nat.{◌≤◌, ◌-◌, ◌*◌, ◌/◌, ◌%◌}
+use Prim.Native.Nat.{◌/◌, ◌%◌}
 use Rattle.first_pair.proofs.Costs.{table_set}
-use Rattle.cycles.proofs.Symmetry.{looped_cost, LoopsBelow, costs_none, costs_skip, costs_more, costs_all}
+use Rattle.cycles.proofs.Symmetry.{looped_cost, costs_none, costs_skip, costs_more, costs_all}
 use native.Mathlib.Omega.{arith}
 use Rattle.cycles.proofs.inner.closed.loops.Goals as goal
 

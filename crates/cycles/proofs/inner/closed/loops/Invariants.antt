@@ -1,7 +1,7 @@
 -- `loops` meets its contract: the table has the costs of the pairs below place a.
-use Prim.Native.Nat.{◌≤◌, ◌-◌, ◌*◌, ◌/◌, ◌%◌}
+use Prim.Native.Nat.{◌≤◌, ◌-◌, ◌*◌}
 use Rattle.first_pair.specs.Cost.{CostTable}
-use Rattle.cycles.proofs.Symmetry.{looped_cost, LoopsBelow, costs_none, costs_skip, costs_more, costs_all}
+use Rattle.cycles.proofs.Symmetry.{LoopsBelow}
 use Rattle.cycles.proofs.inner.closed.loops.Given as goal
 
 abbrev pub invariant-loop-a : goal.invariant-loop-a

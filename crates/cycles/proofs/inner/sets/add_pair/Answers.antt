@@ -1,7 +1,7 @@
 use mathlib.Core.Path.{refl}
-use Prim.Native.Nat.{◌≤◌, ◌-◌, ◌<◌}
-use Rattle.coder.proofs.Fill.{Filled, filled_none, filled_more}
-use Rattle.cycles.proofs.PairSets.{besides, besides_all}
+use Prim.Native.Nat.{◌<◌}
+use Rattle.coder.proofs.Fill.{filled_none, filled_more}
+use Rattle.cycles.proofs.PairSets.{besides_all}
 use native.Mathlib.Omega.{arith}
 use Rattle.cycles.proofs.inner.sets.add_pair.Goals as goal
 

@@ -1,8 +1,8 @@
 -- `add_pair` meets its contract: the rows below x have the successors besides.
-use Prim.Native.Nat.{◌≤◌, ◌-◌, ◌<◌}
+use Prim.Native.Nat.{◌≤◌, ◌-◌}
 use Rattle.cycles.specs.Successors.{word_at}
-use Rattle.coder.proofs.Fill.{Filled, filled_none, filled_more}
-use Rattle.cycles.proofs.PairSets.{besides, besides_all}
+use Rattle.coder.proofs.Fill.{Filled}
+use Rattle.cycles.proofs.PairSets.{besides}
 use Rattle.cycles.proofs.inner.sets.add_pair.Given as goal
 
 abbrev pub invariant-loop-x : goal.invariant-loop-x

@@ -1,6 +1,5 @@
 use mathlib.Core.Path.{◌≡◌}
-use Prim.Native.Nat.{◌≤◌, ◌-◌}
-use Rattle.cycles.proofs.PairSets.{SomeBelow, image_none, image_more, image_all}
+use Rattle.cycles.proofs.PairSets.{image_none, image_more, image_all}
 use native.Mathlib.Omega.{arith}
 use Rattle.cycles.proofs.inner.sets.image.Goals as goal
 

@@ -1,7 +1,7 @@
 -- `image` meets its contract: the set has what follows the pairs with a first state below u.
 use Prim.Native.Nat.{◌≤◌, ◌-◌}
 use lib.ListN.{get_or}
-use Rattle.cycles.proofs.PairSets.{SomeBelow, image_none, image_more, image_all}
+use Rattle.cycles.proofs.PairSets.{SomeBelow}
 use Rattle.cycles.specs.Successors.{FollowsRow, ExactlyPairs}
 use Rattle.cycles.proofs.inner.sets.image.Given as goal
 

@@ -1,7 +1,6 @@
 use mathlib.Core.Path.{◌≡◌, refl, sym, ◌∙◌}
-use mathlib.Core.Logic.{⊎_elim}
-use Prim.Native.Nat.{ℕ, ◌≤◌, ◌-◌, ◌<◌}
-use Rattle.cycles.proofs.PairSets.{RowsParted, parted_none, parted_more, parted_all}
+use Prim.Native.Nat.{ℕ, ◌<◌}
+use Rattle.cycles.proofs.PairSets.{parted_none, parted_more, parted_all}
 use native.Mathlib.Omega.{arith}
 use Rattle.cycles.proofs.inner.sets.part.Goals as goal
 use Rattle.cycles.proofs.inner.sets.part.Goals.{then-fresh-ne0, else-fresh-ne0}

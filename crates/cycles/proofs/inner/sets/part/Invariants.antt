@@ -1,6 +1,6 @@
 -- `part` meets its contract: the rows below x are parted.
-use Prim.Native.Nat.{ℕ, ◌≤◌, ◌-◌, ◌<◌}
-use Rattle.cycles.proofs.PairSets.{RowsParted, parted_none, parted_more, parted_all}
+use Prim.Native.Nat.{◌≤◌, ◌-◌}
+use Rattle.cycles.proofs.PairSets.{RowsParted}
 use Rattle.cycles.proofs.inner.sets.part.Given as goal
 
 abbrev pub invariant-loop-x : goal.invariant-loop-x

@@ -1,7 +1,7 @@
 -- `places::decode_places` meets its contract: before each turn the first k places are decoded.
-use lib.ListN.{take, drop, length-drop, length}
-use Prim.Native.Nat.{ℕ, ◌+◌, ◌≤◌, ◌<◌, ◌-◌}
-use mathlib.Core.Path.{◌≡◌, refl}
+use lib.ListN.{length}
+use Prim.Native.Nat.{◌≤◌, ◌-◌}
+use mathlib.Core.Path.{◌≡◌}
 use Rattle.decoder.specs.Places.{PlacesGiven}
 use Rattle.decoder.proofs.inner.places.decode_places.Given as goal
 

@@ -1,6 +1,5 @@
-use Prim.Native.Nat.{◌≤◌, ◌-◌}
 use mathlib.Core.Path.{refl}
-use Rattle.coder.proofs.Fill.{Filled, filled_none, filled_more, filled_all}
+use Rattle.coder.proofs.Fill.{filled_none, filled_more, filled_all}
 use borrow.Author.Rules.{rules}
 use native.Mathlib.Omega.{arith}
 use Rattle.filling.proofs.inner.sets.start_sets.Goals as goal

@@ -1,6 +1,6 @@
 -- `start_sets` meets its contract. The first s sets are made.
 use Prim.Native.Nat.{◌≤◌, ◌-◌}
-use Rattle.coder.proofs.Fill.{Filled, filled_none, filled_more, filled_all}
+use Rattle.coder.proofs.Fill.{Filled}
 use Rattle.filling.proofs.Steps.{start_set}
 use Rattle.filling.proofs.inner.sets.start_sets.Given as goal
 

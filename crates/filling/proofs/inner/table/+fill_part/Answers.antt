@@ -1,6 +1,6 @@
-use mathlib.Core.Path.{refl, sym, ◌∙◌}
+use mathlib.Core.Path.{refl, ◌∙◌}
 use native.Mathlib.Omega.{arith}
-use Rattle.filling.proofs.Filling.{part_rows, part_next, last_asked, part_last, filling_start, filling_room, filling_asked, filling_more, filling_end}
+use Rattle.filling.proofs.Filling.{part_rows, part_next, last_asked, part_last, filling_start, filling_room, filling_asked, filling_more}
 use Rattle.filling.proofs.inner.table.+fill_part.Goals as goal
 
 pub fill_last-requires : goal.fill_last-requires

@@ -1,8 +1,7 @@
 use mathlib.Core.Path.{sym, ap, ◌∙◌}
-use Prim.Native.Nat.{◌-◌}
 use Rattle.mealy.specs.Answer.{byte_of}
 use Rattle.fitting.specs.Answer.{meaning}
-use Rattle.filling.proofs.Filling.{LastFilling, last_none, last_more}
+use Rattle.filling.proofs.Filling.{last_none, last_more}
 use native.Mathlib.Omega.{arith}
 use Rattle.filling.proofs.inner.table.fill_last.Goals as goal
 

@@ -1,6 +1,6 @@
 -- `fill_last` meets its contract. The bytes of the first o letters are written.
 use Prim.Native.Nat.{◌-◌}
-use Rattle.filling.proofs.Filling.{LastFilling, last_none, last_more}
+use Rattle.filling.proofs.Filling.{LastFilling}
 use Rattle.filling.proofs.inner.table.fill_last.Given as goal
 
 abbrev pub invariant-loop-o : goal.invariant-loop-o

@@ -1,5 +1,4 @@
-use Prim.Native.Nat.{◌-◌, ◌≤◌}
-use Rattle.fitting.proofs.Steps.{Followed, followed_none, followed_more, followed_all, followed_empty}
+use Rattle.fitting.proofs.Steps.{followed_none, followed_more, followed_all, followed_empty}
 use Rattle.mealy.proofs.Letters.{letter_at_lem}
 use native.Mathlib.Omega.{arith}
 use Rattle.fitting.proofs.inner.sets.follow.Goals as goal

@@ -2,7 +2,7 @@
 use Prim.Native.Nat.{◌-◌, ◌≤◌}
 use lib.ListN.{length}
 use Rattle.fitting.specs.Tables.{Leads}
-use Rattle.fitting.proofs.Steps.{Followed, followed_none, followed_more, followed_all, followed_empty}
+use Rattle.fitting.proofs.Steps.{Followed}
 use Rattle.fitting.proofs.inner.sets.follow.Given as goal
 
 abbrev pub invariant-loop-k : goal.invariant-loop-k

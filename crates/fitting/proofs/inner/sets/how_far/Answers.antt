@@ -1,6 +1,5 @@
-use Prim.Native.Nat.{◌-◌, ◌≤◌}
 use Rattle.mealy.proofs.Letters.{letter_at_lem}
-use Rattle.fitting.proofs.Steps.{StillLeads, still_none, still_more, still_stops, still_all}
+use Rattle.fitting.proofs.Steps.{still_none, still_more, still_stops, still_all}
 use native.Mathlib.Omega.{arith}
 use Rattle.fitting.proofs.inner.sets.how_far.Goals as goal
 

@@ -2,7 +2,7 @@
 use Prim.Native.Nat.{◌-◌, ◌≤◌}
 use lib.ListN.{length}
 use Rattle.fitting.specs.Tables.{Leads}
-use Rattle.fitting.proofs.Steps.{StillLeads, still_none, still_more, still_stops, still_all}
+use Rattle.fitting.proofs.Steps.{StillLeads}
 use Rattle.fitting.proofs.inner.sets.how_far.Given as goal
 
 abbrev pub invariant-loop-k : goal.invariant-loop-k

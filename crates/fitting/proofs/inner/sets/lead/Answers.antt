@@ -1,5 +1,5 @@
 use native.Mathlib.Omega.{arith}
-use Rattle.fitting.proofs.Backward.{leads_all, LeadsFrom, leads_none, leads_more, leads_empty}
+use Rattle.fitting.proofs.Backward.{leads_all, leads_none, leads_more, leads_empty}
 use Rattle.mealy.proofs.Letters.{letter_at_lem}
 use Rattle.fitting.proofs.inner.sets.lead.Goals as goal
 

@@ -1,7 +1,7 @@
 -- `lead` meets its contract: the states before the letters from place k on.
 use lib.ListN.{length}
 use Prim.Native.Nat.{◌≤◌}
-use Rattle.fitting.proofs.Backward.{leads_all, LeadsFrom, leads_none, leads_more, leads_empty}
+use Rattle.fitting.proofs.Backward.{LeadsFrom}
 use Rattle.fitting.specs.Tables.{Leads}
 use Rattle.fitting.proofs.inner.sets.lead.Given as goal
 

@@ -1,7 +1,6 @@
 use mathlib.Core.Path.{◌≡◌, refl}
-use Prim.Native.Nat.{◌≤◌, ◌-◌}
 use native.Mathlib.Omega.{arith}
-use Rattle.search_kinds.proofs.Apart.{WordsTo, words_none, words_more, words_all}
+use Rattle.search_kinds.proofs.Apart.{words_none, words_more, words_all}
 use Rattle.search_kinds.proofs.inner.letters.apart_words.Goals as goal
 
 pub loop-i-init : goal.loop-i-init

@@ -3,7 +3,7 @@ use Prim.Native.Nat.{◌≤◌, ◌-◌}
 use Rattle.mealy.specs.Word.{Has}
 use Rattle.kind_list.specs.KindList.{kind_of}
 use Rattle.search_kinds.specs.Letters.{ToldApart}
-use Rattle.search_kinds.proofs.Apart.{WordsTo, words_none, words_more, words_all}
+use Rattle.search_kinds.proofs.Apart.{WordsTo}
 use Rattle.search_kinds.proofs.inner.letters.apart_words.Given as goal
 
 abbrev pub invariant-loop-i : goal.invariant-loop-i

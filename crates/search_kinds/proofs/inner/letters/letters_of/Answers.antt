@@ -1,7 +1,5 @@
 use mathlib.Core.Path.{◌≡◌, sym, ◌∙◌}
-use Prim.Native.Nat.{◌≤◌, ◌<◌, ◌-◌}
 use native.Mathlib.Omega.{arith}
-use Rattle.kind_list.specs.KindList.{kind_of}
 use Rattle.search_kinds.proofs.Apart.{held_none, held_more, held_less}
 use Rattle.search_kinds.proofs.inner.letters.letters_of.Goals as goal
 

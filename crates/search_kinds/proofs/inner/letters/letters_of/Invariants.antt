@@ -1,5 +1,5 @@
 -- `letters_of` meets its contract. The word holds the letters below j of the kind.
-use mathlib.Core.Path.{◌≡◌, sym, ◌∙◌}
+use mathlib.Core.Path.{◌≡◌}
 use Prim.Native.Nat.{◌≤◌, ◌<◌, ◌-◌}
 use Rattle.mealy.specs.Word.{Holds}
 use Rattle.kind_list.specs.KindList.{kind_of}

@@ -1,5 +1,4 @@
 use mathlib.Core.Path.{◌≡◌}
-use Prim.Native.Nat.{ℕ, ◌≤◌, ◌-◌}
 use native.Mathlib.Omega.{arith}
 use Rattle.search_kinds.proofs.Apart.{held_none, held_more, held_less}
 use Rattle.search_kinds.proofs.inner.tries.carried_kinds.Goals as goal

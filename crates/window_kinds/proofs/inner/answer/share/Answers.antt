@@ -1,11 +1,9 @@
 use mathlib.Core.Path.{◌≡◌, sym}
-use mathlib.Core.Bool.{true}
-use Prim.Native.Nat.{◌≤◌, ◌-◌}
 use borrow.Author.Rules.{rules}
 use native.Mathlib.Omega.{arith}
 use Rattle.coder.specs.Refusal.{all_below}
 use Rattle.coder.proofs.Refusals.{all_more, all_not, via}
-use Rattle.window_kinds.specs.Answer.{of_kind, shared}
+use Rattle.window_kinds.specs.Answer.{shared}
 use Rattle.window_kinds.proofs.inner.answer.share.Goals as goal
 
 pub loop-x-init : goal.loop-x-init
