@@ -53,6 +53,7 @@ fn fill<'a>(
 }
 
 // The successors of the pairs of a coder.
+#[inline(never)]
 pub fn successors(c: Coder) -> [u16; 4096]
     requires { Sound c }
     ensures { SuccessorsOf (machine_of_coder c) result }

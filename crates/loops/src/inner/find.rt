@@ -30,6 +30,7 @@ fn write_letters<'a>(
 
 // The first looped pair of a coder whose runs start in the states of the word, word i of `conflicts` holding the letters that conflict with
 // i. Its letters go to the front of the buffer.
+#[inline(never)]
 pub fn find(c: Coder, starts: u16, conflicts: &[u16; 16], letters: &mut [u8]) -> LoopedPair
     requires { FindAsked c starts conflicts.now letters.old }
     ensures { FoundPair c starts conflicts.now result letters.old letters.new }

@@ -21,6 +21,7 @@ pub struct CostTables {
     pub heads: [usize; 256],
 }
 
+#[inline(never)]
 pub fn tables<'a>(c: Coder, words: &'a [u16; 4096], conflicts: &'a [u16; 16]) -> CostTables
     requires { Sound c × SuccessorsOf (machine_of_coder c) words.now }
     ensures { CostTablesOf c conflicts.now result.loops result.tails result.heads }
