@@ -28,8 +28,8 @@ use Rattle.coder.proofs.Judging.{judges_map}
 
 pub record CheckAccepted (f : List ℕ) (p : LoopedPair) (fit : Bool) : Type 0 where
   pub file : file_refusal f ≡ 0
-  pub first_state_lem : p.s < states_of f
-  pub second_state_lem : p.t < states_of f
+  pub first_state : p.s < states_of f
+  pub second_state : p.t < states_of f
   pub size : length p.bytes ≡ 2 * letters p
   pub fits : fit ≡ true
   pub below : Letters (inputs_of f) p.bytes
@@ -49,8 +49,8 @@ check_accepted f p fit e =
     let t = refuse_not l _ _ (lit< tt) w.1 in
     record {
       file = a.0;
-      first_state_lem = ltb-true _ _ s.0;
-      second_state_lem = ltb-true _ _ s.1;
+      first_state = ltb-true _ _ s.0;
+      second_state = ltb-true _ _ s.1;
       size = eqb-true _ _ d.0;
       fits = w.0;
       below = letters_below_lem (inputs_of f) p.bytes t.0;
@@ -77,8 +77,8 @@ module _ {c : Coder} {f : List ℕ} {p : LoopedPair} {fit : Bool} (e : c ≡ cod
       bytes_are = refl;
       below = rw e r.below;
     };
-    first = rw e r.first_state_lem;
-    second = rw e r.second_state_lem;
+    first = rw e r.first_state;
+    second = rw e r.second_state;
     size = r.size;
   }
 

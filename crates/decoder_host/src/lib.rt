@@ -4,7 +4,7 @@
 ghost use Rattle.std.specs.Prelude.{◌≤◌, ◌≡◌, length};
 ghost use Rattle.layout.specs.Layout.{result_bytes, with_fields};
 ghost use Rattle.layout.specs.Host.{LaidOut, HasRoom};
-ghost use Rattle.values.specs.Window.{window as windowOf};
+ghost use Rattle.values.specs.Window.{window as window_of};
 ghost use Rattle.decoder_host.specs.Laid.{answer_fields, laid_window, WindowFromHost, StringFromHost, TableFromHost};
 
 use coder::inner::bytes::number;
@@ -56,7 +56,7 @@ pub fn window(
     received: &[u8],
     res: &mut [u8],
 ) -> usize
-    ensures { WindowFromHost file.now (windowOf before after settle) received.now
+    ensures { WindowFromHost file.now (window_of before after settle) received.now
         res.old result res.new }
 {
     let w = Window {
@@ -78,7 +78,7 @@ pub fn string(
     output: &mut [u8],
     res: &mut [u8],
 ) -> usize
-    ensures { StringFromHost file.now (windowOf before after settle) received.now
+    ensures { StringFromHost file.now (window_of before after settle) received.now
         output.old res.old result output.new res.new }
 {
     let w = Window {
@@ -99,7 +99,7 @@ pub fn table(
     table: &mut [u8],
     res: &mut [u8],
 ) -> usize
-    ensures { TableFromHost file.now (windowOf before after settle)
+    ensures { TableFromHost file.now (window_of before after settle)
         table.old res.old result table.new res.new }
 {
     let w = Window {

@@ -2,8 +2,9 @@
 -- number 15, and the numbers of two files in turn.
 use mathlib.Core.Path.{◌≡◌, refl}
 use mathlib.Core.Bool.{true, false}
-use mathlib.Core.List.{List, [], ◌∷◌}
+use mathlib.Core.List.{List, [], ◌∷◌, ◌++◌}
 use Prim.Native.Nat.{ℕ}
+use lib.ListN.{take, drop}
 use Rattle.values.specs.declared.Window.{Window}
 use Rattle.published.specs.Published.{without, order, order_in_row, follows, Bytes, start_rule, settle_rule, number_rule, table_rule, buffers_rule}
 use Rattle.published.specs.Published.{inputs_rule, received_rule, file_rules, parts_rules, window_rules, kinds_rule, sides_rule}
@@ -49,6 +50,10 @@ kinds_after_sides = refl
 pub kinds_before_start : follows (16 ∷ 7 ∷ []) order ≡ false
 unfolding follows
 kinds_before_start = refl
+
+-- the order of a call that is given two files is the order, with 17 put in
+pub with_17 : order_in_row ≡ take 13 order ++ (17 ∷ drop 13 order)
+with_17 = refl
 
 -- 17 after 10 and before 11
 pub row_after_table : follows (15 ∷ 10 ∷ 17 ∷ 11 ∷ []) order_in_row ≡ true

@@ -1,6 +1,6 @@
 // The refusal of a check.
 ghost use Rattle.std.specs.Prelude.{◌≡◌, ◌*◌, eqb, []};
-ghost use Rattle.mealy.specs.LoopedPair.{letters as lettersOf};
+ghost use Rattle.mealy.specs.LoopedPair.{letters as letters_of};
 ghost use Rattle.values.specs.Pair.{pair_of};
 ghost use Rattle.checker.specs.Check.{check_refusal};
 
@@ -9,7 +9,7 @@ use values::LoopedPair;
 
 // Whether n bytes are twice the letters of a pair, the lengths added as whole numbers, however large.
 fn twice(n: usize, pair: LoopedPair) -> bool
-    ensures { result ≡ eqb n (2 * lettersOf (pair_of pair [])) }
+    ensures { result ≡ eqb n (2 * letters_of (pair_of pair [])) }
 {
     if n % 2 == 1 {
         return false;

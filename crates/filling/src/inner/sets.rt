@@ -4,7 +4,7 @@ ghost use Rattle.mealy.specs.Word.{Holds};
 ghost use Rattle.coder.specs.Limits.{max_states, max_outputs};
 ghost use Rattle.coder.specs.declared.inner.tables.Coder.{Coder};
 ghost use Rattle.filling.specs.Runs.{EachWord, LetterAfter};
-ghost use Rattle.filling.specs.Sets.{RowsAsked, RowsOf, contribution as contributionOf, added, start_sets};
+ghost use Rattle.filling.specs.Sets.{RowsAsked, RowsOf, contribution as contribution_of, added, start_sets};
 
 use coder::inner::tables::Coder;
 
@@ -13,7 +13,7 @@ pub const EMPTY: u16 = 0;
 // What the entry at place p gives to its next state: at the present place its letter, elsewhere the set u of its own state, and
 // nothing where that set is empty.
 fn contribution(here: bool, p: usize, u: u16) -> u16
-    ensures { result ≡ contributionOf here p u }
+    ensures { result ≡ contribution_of here p u }
 {
     if u == EMPTY {
         return EMPTY;
