@@ -3,13 +3,13 @@
 #: Where no source is newer than what was built, only test proves again.
 #:
 #:   help                 this list
-#:   report               the program target/bin/report, run on an example: TIME_PART from nothing, else seconds
+#:   report               the program target/bin/report, run on an example: 4 minutes from nothing, else half a minute
 #:   lib                  the static library for a host in C, with include/lowhenita.h: the same
 #:   examples             the library and the example hosts, run on examples: the same
 #:   install              library, header, program, manual page and pkg-config file below PREFIX, /usr/local if none is given: the same
 #:   uninstall            removes these files; nothing is built for it
-#:   check                proves every crate and runs every test, but tries no must-fail edit: TIME_CHECK from nothing, else about 2
-#:   test                 the gate: proves every crate from nothing, tries every must-fail edit, runs every test: TIME_TEST
+#:   check                proves every crate and runs every test, but tries no must-fail edit: 10 minutes from nothing, else about 5
+#:   test                 the gate: proves every crate, tries every must-fail edit, runs every test: 30 minutes from nothing
 #:   bench                the library and its times beside plain C: 25 seconds more than lib
 #:   target/lowhenita.pc  the pkg-config file; nothing is built for it
 #:   clean                removes target/ and each crate's out/: all that is built, and what checks have kept
@@ -35,9 +35,11 @@ test:
 	.ci/run
 
 check:
-	rt all check
+	rt all test
 	$(MAKE) lib report
 	tools/build cases
+	target/bin/report < crates/report/stdin | cmp - crates/report/stdout
+	target/bin/cases < crates/cases/stdin | cmp - crates/cases/stdout
 	tests/host/run
 	tests/report/run
 	tests/examples/run
