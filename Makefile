@@ -8,7 +8,7 @@
 #:   examples             the library and the example hosts, run on examples: the same
 #:   install              library, header, program, manual page and pkg-config file below PREFIX, /usr/local if none is given: the same
 #:   uninstall            removes these files; nothing is built for it
-#:   check                proves every crate and runs every test, but tries no must-fail edit: 10 minutes from nothing, else about 5
+#:   check                proves every crate and runs every test, but tries no must-fail edit: 10 minutes from nothing, else about 7
 #:   test                 the gate: proves every crate, tries every must-fail edit, runs every test: 30 minutes from nothing
 #:   bench                the library and its times beside plain C: 25 seconds more than lib
 #:   target/lowhenita.pc  the pkg-config file; nothing is built for it
