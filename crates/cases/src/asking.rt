@@ -1,180 +1,183 @@
-// What a line asks for: a call with its arguments, or a file to keep. A call's number is the place of its form among the forms.
-use crate::reading::{above, after, blanks, byte, form_at, next_line, number, one_more};
+// What a line asks for: a call with its arguments, or a file to keep.
+use crate::bytes::MOST;
+use crate::line::Line;
+use values::{LoopedPair, Order, Window};
 
-pub(crate) const RUN: usize = 0;
-
-pub(crate) const STRING: usize = 1;
-
-pub(crate) const TABLE: usize = 2;
-
-pub(crate) const WRITE: usize = 3;
-
-pub(crate) const JOIN: usize = 4;
-
-pub(crate) const LEAST_LOOKAHEAD: usize = 6;
-
-// The last of the calls that are lent a buffer.
-pub(crate) const FEWEST_LETTERS: usize = 7;
-
-pub(crate) const COUNTS: usize = 8;
-
-pub(crate) const ENTRIES: usize = 9;
-
-pub(crate) const WINDOW: usize = 10;
-
-pub(crate) const CHECK: usize = 11;
-
-pub(crate) const KINDS: usize = 12;
-
-pub(crate) const DECODE_KINDS: usize = 13;
-
-pub(crate) const FILE: usize = 14;
-
-// A call by its number; the last six numbers that it is given, f the last; where its list of bytes begins and ends, and the list before
-// that; and the place after all.
+// A call with its arguments, but for the file and a lent buffer. `NoCall` is a line that goes on after the list of a file; it gives no
+// bytes.
 #[derive(Clone, Copy)]
-pub(crate) struct Request {
-    pub(crate) call: usize,
-    pub(crate) a: usize,
-    pub(crate) b: usize,
-    pub(crate) c: usize,
-    pub(crate) d: usize,
-    pub(crate) e: usize,
-    pub(crate) f: usize,
-    pub(crate) first_from: usize,
-    pub(crate) first_to: usize,
-    pub(crate) from: usize,
-    pub(crate) to: usize,
-    pub(crate) at: usize,
+pub(crate) enum Call<'a> {
+    Run {
+        start: usize,
+        input: &'a [u8],
+    },
+    Decode {
+        window: Window,
+        received: &'a [u8],
+    },
+    Table(Window),
+    Write {
+        states: usize,
+        inputs: usize,
+        outputs: usize,
+        entries: &'a [u8],
+    },
+    Join {
+        second: &'a [u8],
+    },
+    Search {
+        settle: usize,
+    },
+    SearchInOrder {
+        order: Order,
+        settle: usize,
+    },
+    Counts,
+    Entries,
+    Letter {
+        window: Window,
+        received: &'a [u8],
+    },
+    Check {
+        pair: LoopedPair,
+        letters: &'a [u8],
+    },
+    Kinds {
+        kinds: &'a [u8],
+    },
+    DecodeKinds {
+        before: usize,
+        after: usize,
+        kinds: &'a [u8],
+        received: &'a [u8],
+    },
+    NoCall,
 }
 
-// The forms of the lines, in the order of the calls' numbers: `#` stands for a number, `@` for a list of bytes, a space for blanks.
-fn forms() -> [u8; 302] {
-    *b"run # on @into # = \n\
-    string # # # on @into # = \n\
-    table # # # into # = \n\
-    write # # # on @into # = \n\
-    join on @into # = \n\
-    search # into # = \n\
-    least_lookahead # into # = \n\
-    fewest_letters # into # = \n\
-    counts = \n\
-    entries = \n\
-    window # # # on @= \n\
-    check # # # # # # on @= \n\
-    kinds on @= \n\
-    decode_kinds # # by @on @= \n\
-    file @\n"
-}
-
-// The place after blanks, or after the byte of a form itself.
-fn place(form: u8, line: &[u8], at: usize) -> usize {
-    if form == b' ' {
-        return blanks(line, at);
-    }
-    after(line, at, form)
-}
-
-// Reads what one byte of a form stands for. A list has only bytes below those of `=` and of letters.
-fn sign(form: u8, line: &[u8], q: Request) -> Request {
-    if form == b'#' {
-        let v = number(line, q.at);
-        return Request {
-            call: q.call,
-            a: q.b,
-            b: q.c,
-            c: q.d,
-            d: q.e,
-            e: q.f,
-            f: v.value,
-            first_from: q.first_from,
-            first_to: q.first_to,
-            from: q.from,
-            to: q.to,
-            at: v.next,
-        };
-    }
-    if form == b'@' {
-        let to = above(line, q.at, b'<');
-        return Request {
-            call: q.call,
-            a: q.a,
-            b: q.b,
-            c: q.c,
-            d: q.d,
-            e: q.e,
-            f: q.f,
-            first_from: q.from,
-            first_to: q.to,
-            from: q.at,
-            to: to,
-            at: to,
-        };
-    }
-    let at = place(form, line, q.at);
-    Request {
-        call: q.call,
-        a: q.a,
-        b: q.b,
-        c: q.c,
-        d: q.d,
-        e: q.e,
-        f: q.f,
-        first_from: q.first_from,
-        first_to: q.first_to,
-        from: q.from,
-        to: q.to,
-        at,
+impl Call<'_> {
+    fn is_lent_a_buffer(&self) -> bool {
+        matches!(
+            self,
+            Call::Run { .. }
+                | Call::Decode { .. }
+                | Call::Table(_)
+                | Call::Write { .. }
+                | Call::Join { .. }
+                | Call::Search { .. }
+                | Call::SearchInOrder { .. }
+        )
     }
 }
 
-// Reads a line by the form that begins at `from`.
-fn by_form(forms: &[u8], from: usize, call: usize, line: &[u8]) -> Request {
-    let mut q = Request {
-        call,
-        a: 0,
-        b: 0,
-        c: 0,
-        d: 0,
-        e: 0,
-        f: 0,
-        first_from: 0,
-        first_to: 0,
-        from: 0,
-        to: 0,
-        at: 0,
+// A call, the size of the buffer that is lent to it, if it is lent one, and what its line expects.
+#[derive(Clone, Copy)]
+pub(crate) struct Request<'a> {
+    pub(crate) call: Call<'a>,
+    pub(crate) size: Option<usize>,
+    pub(crate) expected: &'a [u8],
+}
+
+// The bytes of the lists of a call.
+#[derive(Drop)]
+pub(crate) struct Lists {
+    pub(crate) first: [u8; MOST],
+    pub(crate) last: [u8; MOST],
+}
+
+// The call that a line names.
+fn named<'a>(line: &mut Line<'_>, lists: &'a mut Lists) -> Option<Call<'a>> {
+    if line.has(b"run") {
+        Some(Call::Run {
+            start: line.number()?,
+            input: line.list(b"on", &mut lists.last)?,
+        })
+    } else if line.has(b"string") {
+        Some(Call::Decode {
+            window: line.window()?,
+            received: line.list(b"on", &mut lists.last)?,
+        })
+    } else if line.has(b"table") {
+        Some(Call::Table(line.window()?))
+    } else if line.has(b"write") {
+        Some(Call::Write {
+            states: line.number()?,
+            inputs: line.number()?,
+            outputs: line.number()?,
+            entries: line.list(b"on", &mut lists.last)?,
+        })
+    } else if line.has(b"join") {
+        Some(Call::Join {
+            second: line.list(b"on", &mut lists.last)?,
+        })
+    } else if line.has(b"search") {
+        Some(Call::Search {
+            settle: line.number()?,
+        })
+    } else if line.has(b"least_lookahead") {
+        Some(Call::SearchInOrder {
+            order: Order::LeastLookahead,
+            settle: line.number()?,
+        })
+    } else if line.has(b"fewest_letters") {
+        Some(Call::SearchInOrder {
+            order: Order::FewestLetters,
+            settle: line.number()?,
+        })
+    } else if line.has(b"counts") {
+        Some(Call::Counts)
+    } else if line.has(b"entries") {
+        Some(Call::Entries)
+    } else if line.has(b"window") {
+        Some(Call::Letter {
+            window: line.window()?,
+            received: line.list(b"on", &mut lists.last)?,
+        })
+    } else if line.has(b"check") {
+        Some(Call::Check {
+            pair: line.pair()?,
+            letters: line.list(b"on", &mut lists.last)?,
+        })
+    } else if line.has(b"kinds") {
+        Some(Call::Kinds {
+            kinds: line.list(b"on", &mut lists.last)?,
+        })
+    } else if line.has(b"decode_kinds") {
+        Some(Call::DecodeKinds {
+            before: line.number()?,
+            after: line.number()?,
+            kinds: line.list(b"by", &mut lists.first)?,
+            received: line.list(b"on", &mut lists.last)?,
+        })
+    } else {
+        line.list(b"file", &mut lists.last)?;
+        Some(Call::NoCall)
+    }
+}
+
+// What a line asks for; None where it cannot be read.
+pub(crate) fn asked<'a>(line: &'a [u8], lists: &'a mut Lists) -> Option<Request<'a>> {
+    let mut line = Line(line);
+    let call = named(&mut line, lists)?;
+    let size = if call.is_lent_a_buffer() {
+        line.word(b"into")?;
+        Some(line.number()?)
+    } else {
+        None
     };
-    let mut i = from;
-    while i < forms.len() {
-        if forms[i] == b'\n' {
-            return q;
-        }
-        let next = sign(forms[i], line, q);
-        q = next;
-        i += 1;
+    if !matches!(call, Call::NoCall) {
+        line.word(b"=")?;
     }
-    q
+    Some(Request {
+        call,
+        size,
+        expected: line.0,
+    })
 }
 
-// The number of the call whose name begins as the line does, two letters tell the names apart; FILE where there is none.
-fn named(forms: &[u8], line: &[u8]) -> usize {
-    let mut from = 0;
-    let mut call = 0;
-    while call < FILE {
-        if byte(forms, from) == byte(line, 0) {
-            if byte(forms, one_more(from)) == byte(line, 1) {
-                return call;
-            }
-        }
-        from = next_line(forms, from);
-        call += 1;
-    }
-    call
-}
-
-// What a line asks for.
-pub(crate) fn asked(line: &[u8]) -> Request {
-    let forms = forms();
-    let call = named(&forms, line);
-    by_form(&forms, form_at(&forms, call), call, line)
+// The list of a line that gives a file, from its sixth byte on. Where it cannot be read, no case on it can.
+pub(crate) fn file(line: &[u8]) -> Option<&[u8]> {
+    let list = line.strip_prefix(b"file")?;
+    list.iter()
+        .all(|b| *b <= b'<')
+        .then_some(list.get(1..).unwrap_or(b""))
 }

@@ -2,217 +2,111 @@
 // that differs, and last how many cases there were and how many differ. The file `stdin` beside `src` says how a case is written.
 #![tactic(auto)]
 
-mod asking; // asking.rt: the call that a case asks for, with its arguments
+mod asking; // asking.rt: what a line asks for: a call with its arguments, or a file to keep
+mod bytes; // bytes.rt: blanks, numbers and lists of bytes
 mod calls; // calls.rt: the public calls
-mod got; // got.rt: what a call gave, its text, and whether it is the expected one
-mod reading; // reading.rt: numbers and lists of bytes in a line
+mod line; // line.rt: a line, read from its front
+mod outcome; // outcome.rt: what a call gave, and its text
+mod output; // output.rt: where a text goes: to standard output, or beside what a case expects
 
-use asking::Request;
-use got::Got;
-use reading::{NOWHERE, byte, line_end, list, one_more, part};
+use asking::Lists;
+use bytes::MOST;
+use outcome::Given;
+use output::{Output, Stdout};
 
-// Where the next line begins, where the last line that gave a file begins and ends, and how many cases there were and differ.
+// How many cases there were, and how many of them differ.
 #[derive(Clone, Copy)]
-struct State {
-    at: usize,
-    from: usize,
-    to: usize,
+struct Tally {
     cases: usize,
     differ: usize,
 }
 
-// Writes a case with its number, and what its call gave.
-fn differs(number: usize, line: &[u8], g: Got, bytes: &[u8]) -> bool {
-    got::say(got::CASE, number, 0);
-    io::write_all(1, line);
-    io::write_all(1, b" | ");
-    got::text(g, bytes, line, 0, true);
-    io::write_all(1, b"\n");
+// The bytes that a case reads, and the buffer that is lent to its call.
+#[derive(Drop)]
+struct Buffers {
+    file: [u8; MOST],
+    lists: Lists,
+    lent: [u8; 65537],
+}
+
+// What the call of a line gives on the file with this list of bytes, and what the line expects. None where the line or the file cannot be
+// read, or the call is to be lent more bytes than there are.
+fn made<'a>(
+    line: &'a [u8],
+    list: &[u8],
+    buffers: &'a mut Buffers,
+) -> Option<(Given<'a>, &'a [u8])> {
+    let file = bytes::list(list, &mut buffers.file)?;
+    let request = asking::asked(line, &mut buffers.lists)?;
+    let lent = &mut buffers.lent;
+    let lent = lent.get_mut(..request.size.unwrap_or(0))?;
+    let outcome = calls::make(request.call, file, lent);
+    let buffer = request.size.is_some().then_some(&*lent);
+    Some((Given { outcome, buffer }, request.expected))
+}
+
+// Whether a case gives what it expects; it is written with its number, and what its call gave, where it does not. Every byte that is lent
+// to its call is 238.
+fn holds(number: usize, line: &[u8], list: &[u8]) -> bool {
+    let mut buffers = Buffers {
+        file: [0; MOST],
+        lists: Lists {
+            first: [0; MOST],
+            last: [0; MOST],
+        },
+        lent: [238; 65537],
+    };
+    let made = made(line, list, &mut buffers);
+    if made.is_some_and(|(given, expected)| given.is_expected(expected)) {
+        return true;
+    }
+    output::numbers(&mut Stdout, b"case", &[number]);
+    Stdout.exact(b": ");
+    Stdout.exact(line);
+    Stdout.exact(b" | ");
+    match made {
+        Some((given, _)) => given.write(&mut Stdout),
+        None => Stdout.exact(b"cannot be read"),
+    }
+    Stdout.exact(b"\n");
     false
 }
 
-// How many bytes are lent to a call.
-fn size(q: Request) -> usize {
-    if q.call <= asking::FEWEST_LETTERS {
-        return q.f;
-    }
-    0
-}
-
-// Whether a call gives what its line expects from the place `at` on; it is written where it does not.
-fn holds(number: usize, line: &[u8], at: usize, g: Got, bytes: &[u8]) -> bool {
-    if got::text(g, bytes, line, at, false) == line.len() {
-        return true;
-    }
-    if at == NOWHERE {
-        let none = got::short(got::UNREADABLE, 0, 0, 0);
-        return differs(number, line, none, b"");
-    }
-    differs(number, line, g, bytes)
-}
-
-// The bytes of a list of a call, put into a buffer; how many they are. A call that has no such list has none.
-fn bytes(line: &[u8], from: usize, to: usize, into: &mut [u8]) -> usize {
-    if from == 0 {
-        return 0;
-    }
-    list(part(line, from, to), into)
-}
-
-// The place of what a line expects; NOWHERE where the line, the file of n bytes, or the k and m bytes of the call could not be read.
-fn place(q: Request, n: usize, k: usize, m: usize) -> usize {
-    if n == NOWHERE {
-        return NOWHERE;
-    }
-    if k == NOWHERE {
-        return NOWHERE;
-    }
-    if m == NOWHERE {
-        return NOWHERE;
-    }
-    q.at
-}
-
-// Makes a call, which is lent the front of the buffer.
-fn make(
-    number: usize,
-    line: &[u8],
-    at: usize,
-    q: Request,
-    file: &[u8],
-    first: &[u8],
-    input: &[u8],
-    buffer: &mut [u8],
-) -> bool {
-    let n = size(q);
-    if buffer.len() < n {
-        return holds(
-            number,
-            line,
-            NOWHERE,
-            got::short(got::UNREADABLE, 0, 0, 0),
-            file,
-        );
-    }
-    let lent = &mut buffer[0..n];
-    let g = calls::make(q, file, first, input, lent);
-    if q.call == asking::ENTRIES {
-        return holds(number, line, at, g, reader::entries(file));
-    }
-    holds(number, line, at, g, lent)
-}
-
-// A case, on the file that the line `given` gives after its first five bytes. Every byte that is lent to its call is 238.
-fn case(number: usize, line: &[u8], given: &[u8]) -> bool {
-    let mut file = [0u8; 1024];
-    let mut first = [0u8; 1024];
-    let mut input = [0u8; 1024];
-    let mut buffer = [238u8; 65537];
-    let q = asking::asked(line);
-    let n = list(part(given, 5, given.len()), &mut file);
-    let k = bytes(line, q.first_from, q.first_to, &mut first);
-    let m = bytes(line, q.from, q.to, &mut input);
-    make(
-        number,
-        line,
-        place(q, n, k, m),
-        q,
-        part(&file, 0, n),
-        part(&first, 0, k),
-        part(&input, 0, m),
-        &mut buffer,
-    )
-}
-
-// One more difference, unless all is well.
-fn counted(well: bool, differ: usize) -> usize {
-    if well {
-        return differ;
-    }
-    one_more(differ)
-}
-
-// A line that is empty or a comment.
-fn passed_over(first: u8) -> bool {
-    if first == 0 {
-        return true;
-    }
-    first == b'#'
-}
-
-// Whether a line gives a file. Where its list cannot be read, no case on it can.
-fn gives_file(line: &[u8]) -> bool {
-    let q = asking::asked(line);
-    if q.call == asking::FILE {
-        return q.at == line.len();
-    }
-    false
-}
-
-// One line.
-fn step(text: &[u8], s: State) -> State {
-    let end = line_end(text, s.at);
-    let line = part(text, s.at, end);
-    let next = one_more(end);
-    if passed_over(byte(line, 0)) {
-        return State {
-            at: next,
-            from: s.from,
-            to: s.to,
-            cases: s.cases,
-            differ: s.differ,
-        };
-    }
-    if gives_file(line) {
-        return State {
-            at: next,
-            from: s.at,
-            to: end,
-            cases: s.cases,
-            differ: s.differ,
-        };
-    }
-    let well = case(one_more(s.cases), line, part(text, s.from, s.to));
-    State {
-        at: next,
-        from: s.from,
-        to: s.to,
-        cases: one_more(s.cases),
-        differ: counted(well, s.differ),
-    }
-}
-
-fn walk(text: &[u8]) -> State {
-    let mut s = State {
-        at: 0,
-        from: 0,
-        to: 0,
+// The cases of a text. A line goes on with those after it that begin with a space; one that is empty, or begins with # or with the byte 0,
+// is passed over.
+fn tried(text: &[u8]) -> Tally {
+    let mut tally = Tally {
         cases: 0,
         differ: 0,
     };
-    while s.at < text.len() {
-        let at = s.at;
-        let next = step(text, s);
-        if next.at <= at {
-            return s;
+    let mut file: &[u8] = b"";
+    for line in text.chunk_by(|a, b| *a != b'\n' || *b == b' ') {
+        let line = line.strip_suffix(b"\n").unwrap_or(line);
+        if let None | Some(0 | b'#') = line.first() {
+            continue;
         }
-        s = next;
+        if let Some(list) = asking::file(line) {
+            file = list;
+        } else {
+            tally.cases = tally.cases.saturating_add(1);
+            if !holds(tally.cases, line, file) {
+                tally.differ = tally.differ.saturating_add(1);
+            }
+        }
     }
-    s
-}
-
-// The last line: the numbers, or that the text fills its buffer and may be cut off.
-fn total(s: State, whole: bool) {
-    if whole {
-        got::say(got::TOTAL, s.cases, s.differ);
-    } else {
-        got::say(got::LONG, 0, 0);
-    }
-    io::write_all(1, b"\n");
+    tally
 }
 
 fn main() {
     let mut text = io::large_buffer();
     let n = io::read_full(0, &mut text);
-    total(walk(&text[..n]), n < 65536);
+    let tally = tried(&text[..n]);
+    if n < 65536 {
+        output::numbers(&mut Stdout, b"cases", &[tally.cases]);
+        Stdout.exact(b",");
+        output::numbers(&mut Stdout, b" differ", &[tally.differ]);
+        Stdout.exact(b"\n");
+    } else {
+        Stdout.exact(b"the text has more than 65535 bytes\n");
+    }
 }

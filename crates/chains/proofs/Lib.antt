@@ -3,3 +3,4 @@ pub mod Chains
 pub mod Entries
 pub mod Building
 pub mod Rows
+pub mod Places

@@ -1,8 +1,10 @@
 // No public calls: the chains and rows of a coder's entries, for the library's own crates.
-ghost use Rattle.std.specs.Prelude.{◌≡◌, ◌<◌};
-ghost use Rattle.chains.specs.Parts.{place_part, place_parts};
+ghost use Rattle.std.specs.Prelude.{◌≡◌, true, false};
+ghost use Rattle.chains.specs.Parts.{place_parts};
 ghost use Rattle.chains.specs.Chain.{Keys, Chained};
 ghost use Rattle.chains.specs.Rows.{Rowed};
+
+use std::array;
 
 // Entries are numbered from 1: entry p + 1 stands at place p of the tables. `last` has for each key the last entry with that key,
 // and `previous` for the place of an entry the entry before it with the same key; 0 for none.
@@ -20,13 +22,6 @@ pub struct Rows {
     pub entries: [u8; 256],
 }
 
-// The number of an entry, as an index.
-pub fn wide(x: u16) -> usize
-    ensures { result ≡ x }
-{
-    x as usize
-}
-
 // Chains the entries of a coder with the given counts by their keys.
 pub fn by_key(keys: &[u8; 256], states: usize, inputs: usize) -> Chain
     requires { Keys keys.now states inputs }
@@ -34,15 +29,11 @@ pub fn by_key(keys: &[u8; 256], states: usize, inputs: usize) -> Chain
 {
     let mut last = [0u16; 64];
     let mut previous = [0u16; 256];
-    let end = 16 * states;
-    let mut p = 0;
-    while p < end {
-        let place = p;
-        p += 1;
-        if place % 16 < inputs {
-            let key = keys[place] as usize;
-            previous[place] = last[key];
-            last[key] = p as u16;
+    for p in 0..16 * states {
+        if p % 16 < inputs {
+            let key = usize::from(keys[p]);
+            previous[p] = last[key];
+            last[key] = (p + 1) as u16;
         }
     }
     Chain { last, previous }
@@ -57,42 +48,30 @@ pub fn rows_by_key(keys: &[u8; 256], states: usize, inputs: usize) -> Rows
     let mut start = [0u16; 65];
     let mut entries = [0u8; 256];
     let mut n = 0;
-    let mut k = 0;
-    while k < 64 {
-        let mut q = wide(chain.last[k]);
+    for k in 0..64 {
+        let mut q = usize::from(chain.last[k]);
+        // A while loop: the chain says where to go on.
         while 0 < q {
             let p = q - 1;
             entries[n] = p as u8;
             n += 1;
-            q = wide(chain.previous[p]);
+            q = usize::from(chain.previous[p]);
         }
-        k += 1;
-        start[k] = n as u16;
+        start[k + 1] = n as u16;
     }
     Rows { start, entries }
 }
 
-// The state of place p of a coder's tables, or its input letter.
-fn part(letters: bool, p: usize) -> u8
-    requires { p < 256 }
-    ensures { result ≡ place_part letters p }
+// The state of each place of a coder's tables.
+pub fn place_states() -> [u8; 256]
+    ensures { result ≡ place_parts false }
 {
-    if letters {
-        (p % 16) as u8
-    } else {
-        (p / 16) as u8
-    }
+    array::from_fn(|p| (p / 16) as u8)
 }
 
-// The state of each place, or its input letter.
-pub fn parts(letters: bool) -> [u8; 256]
-    ensures { result ≡ place_parts letters }
+// The input letter of each place.
+pub fn place_letters() -> [u8; 256]
+    ensures { result ≡ place_parts true }
 {
-    let mut a = [0u8; 256];
-    let mut p = 0;
-    while p < 256 {
-        a[p] = part(letters, p);
-        p += 1;
-    }
-    a
+    array::from_fn(|p| (p % 16) as u8)
 }

@@ -23,7 +23,7 @@ use Rattle.setting.specs.Words.{WordsOf}
 use Rattle.setting.proofs.Same.{coder_sound, same_setting}
 use Rattle.checker.specs.Check.{check_refusal, CheckedRight}
 use Rattle.valid_pair.specs.Follow.{CheckOf}
-use Rattle.checker.specs.declared.CheckResult.TheVariants.{Checked}
+use Rattle.std.specs.Prelude.{Ok}
 use Rattle.coder.proofs.Judging.{judges_map}
 
 pub record CheckAccepted (f : List ℕ) (p : LoopedPair) (fit : Bool) : Type 0 where
@@ -62,7 +62,7 @@ check_asked f p others e = rw (check_accepted f p others e).fits at e
 
 pub right :
     {f : List ℕ} {p : LoopedPair} {answer : Bool} → Judges (Valid (setting_of f) p) answer →
-    CheckedRight f p (Checked answer)
+    CheckedRight f p (Ok answer)
 right {answer = answer} j = record { answer = answer; is = refl; yes' = j.yes'; no' = j.no' }
 
 -- on the tables of the file

@@ -1,10 +1,10 @@
 -- The checker of looped pairs: its refusal and its promise.
-use Rattle.std.specs.Prelude.{ℕ, ◌*◌, ◌≡◌, Bool, true, false, not, ◌&&◌, List, length, ltb, eqb}
+use Rattle.std.specs.Prelude.{ℕ, ◌*◌, ◌≡◌, Bool, true, false, not, ◌&&◌, List, length, ltb, eqb, Result, Ok}
 use Rattle.mealy.specs.LoopedPair.{LoopedPair, letters, Valid}
 use Rattle.coder.specs.Refusal.{refuse, first, letters_below, upon}
 use Rattle.coder.specs.File.{file_refusal, states_of, inputs_of, setting_of}
-use Rattle.checker.specs.declared.CheckResult.{CheckResult}
-use Rattle.checker.specs.declared.CheckResult.TheVariants.{Refused, Checked}
+use Rattle.coder.specs.declared.refusal.Refusal.{Refusal}
+use Rattle.coder.specs.Refused.{Refused}
 
 -- The call's refusal, in checking order: the file's, then 7 (a start state), 9 (there are not two bytes for each letter; the sum is one of
 -- whole numbers, which does not wrap), 11 (some lent buffer is too short) and 12 (an input letter).
@@ -18,17 +18,17 @@ check_refusal f p fits =
     0))))
 
 -- the result is a yes or a no, and yes exactly for a valid pair
-pub record CheckedRight (f : List ℕ) (p : LoopedPair) (r : CheckResult) : Type 0 where
+pub record CheckedRight (f : List ℕ) (p : LoopedPair) (r : Result Bool Refusal) : Type 0 where
   pub answer : Bool
-  pub is : r ≡ Checked answer
+  pub is : r ≡ Ok answer
   pub yes' : answer ≡ true → Valid (setting_of f) p
   pub no' : answer ≡ false → Valid (setting_of f) p → ⊥
 
 -- The first refusal that applies, or yes exactly for the valid pairs ("Looped pair", the sentence on the checker); `others` says whether
 -- the lent buffers are long enough, of which the checker has none of its own.
-abbrev pub CheckWith : List ℕ → LoopedPair → Bool → CheckResult → Type 0
+abbrev pub CheckWith : List ℕ → LoopedPair → Bool → Result Bool Refusal → Type 0
 CheckWith f p others r = upon (check_refusal f p others) (λ k. r ≡ Refused k) (CheckedRight f p r)
 
 -- The library's own call lends none.
-abbrev pub CheckPromise : List ℕ → LoopedPair → CheckResult → Type 0
+abbrev pub CheckPromise : List ℕ → LoopedPair → Result Bool Refusal → Type 0
 CheckPromise f p r = CheckWith f p true r

@@ -6,8 +6,8 @@ ghost use Rattle.coder.specs.Refusal.{Judges};
 ghost use Rattle.values.specs.Pair.{pair_of};
 ghost use Rattle.checker.specs.Check.{check_refusal, CheckWith};
 
-use crate::CheckResult;
 use coder::inner::tables::Coder;
+use coder::refusal::Refusal;
 use values::LoopedPair;
 
 pub mod refusal; // refusal.rt: the refusal of a check
@@ -18,18 +18,16 @@ fn checked(file: &[u8], pair: LoopedPair, letters: &[u8]) -> bool
     ensures { Judges (Valid (setting_of file.now) (pair_of pair letters.now)) result }
 {
     let c = Coder::from_checked(file);
-    let starts = starts::inner::start_states(c, 0);
+    let starts = starts::inner::start_states(&c, 0);
     let conflicts = setting::inner::different_letters();
-    valid_pair::inner::follow::valid(&c.next, &c.output, starts, &conflicts, pair, letters)
+    valid_pair::inner::follow::valid(&c, starts, &conflicts, pair, letters)
 }
 
 // Whether a pair is valid, where `others` says whether all lent buffers are long enough.
-pub fn check(file: &[u8], pair: LoopedPair, letters: &[u8], others: bool) -> CheckResult
+#[tactic(auto, using(crate::proofs::Checking::check_asked))]
+pub fn check(file: &[u8], pair: LoopedPair, letters: &[u8], others: bool) -> Result<bool, Refusal>
     ensures { CheckWith file.now (pair_of pair letters.now) others result }
 {
-    let k = refusal::check(file, pair, letters, others);
-    if k != 0 {
-        return CheckResult::Refused(k);
-    }
-    CheckResult::Checked(checked(file, pair, letters))
+    refusal::check(file, pair, letters, others)?;
+    Ok(checked(file, pair, letters))
 }

@@ -1,22 +1,22 @@
 -- The checker for a host in C: a call that is not refused has the result buffer long enough, and its outcome is determined.
-use mathlib.Core.Path.{◌≡◌, refl, ap}
+use mathlib.Core.Path.{◌≡◌, ap}
 use mathlib.Core.Bool.{Bool, true}
 use mathlib.Core.List.{List}
 use Prim.Native.Nat.{ℕ}
 use Rattle.mealy.specs.LoopedPair.{LoopedPair}
-use Rattle.layout.proofs.Hosting.{not_refused_upon, same_host}
+use Rattle.layout.proofs.Hosting.{no_refusal_upon, same_host}
 use Rattle.checker.specs.Check.{check_refusal, CheckedRight, CheckWith}
-use Rattle.checker_host.specs.Laid.{laid_check, CheckFromHost}
-use Rattle.checker.specs.declared.CheckResult.{CheckResult}
-use Rattle.checker.specs.declared.CheckResult.TheVariants.{Refused}
+use Rattle.checker_host.specs.Laid.{check_fields, laid_check, CheckFromHost}
+use Rattle.std.specs.Prelude.{Result}
+use Rattle.coder.specs.declared.refusal.Refusal.{Refusal}
 use Rattle.checker.proofs.Checking.{check_accepted}
 use Rattle.checker.proofs.Determined.{check_determined}
 
 pub check_others :
-    (f : List ℕ) (p : LoopedPair) (others : Bool) (r : CheckResult) → CheckWith f p others r → (laid_check r).returned ≡ 0 → others ≡ true
+    (f : List ℕ) (p : LoopedPair) (others : Bool) (r : Result Bool Refusal) → CheckWith f p others r → (laid_check r).returned ≡ 0 → others ≡ true
 check_others f p others r h z =
     (check_accepted f p others
-    (not_refused_upon laid_check (check_refusal f p others) (λ j. Refused j) (CheckedRight f p r) (λ j. refl) h z)).fits
+    (no_refusal_upon check_fields (check_refusal f p others) r (CheckedRight f p r) h z)).fits
 
 pub check_host_determined :
     (f : List ℕ) (p : LoopedPair) (result result' result₂ : List ℕ) (r q : ℕ) → CheckFromHost f p result r result' →

@@ -1,6 +1,6 @@
 -- What an accepted file is known to be.
 use mathlib.Core.Path.{◌≡◌, refl}
-use mathlib.Core.Bool.{Bool, true, not}
+use mathlib.Core.Bool.{not, Bool, true}
 use mathlib.Core.List.{List}
 use Prim.Native.Nat.{ℕ, ◌+◌, ◌-◌, ◌*◌, ◌≤◌, ◌<◌}
 use native.Mathlib.Nat.{mul-le-mul}
@@ -160,3 +160,7 @@ accepted f e =
 pub file_named : (f : List ℕ) → file_refusal f ≡ 0 → NamesAlphabet (machine_of f) (outputs_of f)
 unfolding machine_of
 file_named f e = (accepted f e).entries.alphabet
+
+-- an accepted file has the bytes of its counts
+pub accepted_long : (f : List ℕ) → file_refusal f ≡ 0 → 6 ≤ length f
+accepted_long f e = omega (arith, accepted f e)

@@ -1,5 +1,6 @@
 -- Laws of the coder file and its tables.
 pub mod Refusals
+pub mod Refused
 pub mod Judging
 pub mod FileNumbers
 pub mod EntryPlaces

@@ -11,7 +11,7 @@ use borrow.Author.Tests.{ltb-true, ltb-false, lt-ltb, le-ltb}
 use Rattle.mealy.specs.Machine.{Total}
 use Rattle.mealy.specs.Setting.{Bounded}
 use Rattle.mealy.proofs.ReachableStates.{reachable_bounded, dec_reachable}
-use Rattle.coder.specs.File.{states_of, inputs_of, outputs_of, entries_of, entry_of, machine_of_entries, machine_of, setting_of}
+use Rattle.coder.specs.File.{outputs_of, entry_of, machine_of_entries, machine_of, setting_of}
 use Rattle.coder.specs.Table.{table_of, coder_of_entries, coder_of, table_at, machine_of_coder, Sound}
 use Rattle.coder.specs.declared.inner.tables.Coder.{Coder}
 use Rattle.coder.specs.Accepted.{IsCoder}
@@ -124,12 +124,6 @@ module _ {n m o : ℕ} {entries : List ℕ} (a : IsCoder n m o entries) where
         next_state = λ s i. rw (table_same 0) (next_entry_below s i);
         output_letter = λ s i. rw (table_same 1) (output_entry_below s i);
       }
-
-pub coder_is :
-    (f : List ℕ) (n i o : ℕ) (entries : List ℕ) → n ≡ states_of f → i ≡ inputs_of f → o ≡ outputs_of f →
-    entries ≡ entries_of f → coder_of_entries n i o entries ≡ coder_of f
-unfolding coder_of
-coder_is f n i o entries en ei eo e = rw (en, ei, eo, e)
 
 module _ (f : List ℕ) (a : Accepted f) where
   pub machine_same : machine_of_coder (coder_of f) ≡ machine_of f

@@ -1,5 +1,6 @@
 -- What the contracts of the file reader cite.
 pub mod Refusal
+pub mod Refused
 pub mod Limits
 pub mod BigEndian
 pub mod Alphabet

@@ -2,3 +2,4 @@
 pub mod Lowering
 pub mod ConflictCosts
 pub mod FirstStarts
+pub mod LeastOfMembers

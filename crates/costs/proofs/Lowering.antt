@@ -188,38 +188,13 @@ module _ {words : List ℕ} {states step low : ℕ} {t₀ : List ℕ} (asked : P
 
 -- ---- passes until none falls
 
--- what holds of the table t after passes, the first over t₀; `fell` says whether any cost fell in the last one
-pub record LoweringSoFar (words : List ℕ) (states step low : ℕ) (t₀ t : List ℕ) (fell : Bool) : Type 0 where
+-- what holds of the table t after passes, the first over t₀
+pub record LoweringSoFar (words : List ℕ) (states step low : ℕ) (t₀ t : List ℕ) : Type 0 where
   pub low_high : low ≤ no_cost
   pub table : CostTable t
   pub low_least : (k : ℕ) → k < 256 → low ≤ get_or t k 0
   pub costs : (M : Machine) → SuccessorsOf M words → M.states ≡ states → CostsIn states (Cost M step (Seeds t₀)) t
   pub falls : (k : ℕ) → get_or t k 0 ≤ get_or t₀ k 0
-  pub still : fell ≡ false → (a n : ℕ) → a < 16 * states → NextCost words t states a n → get_or t a 0 ≤ n + step
-
--- the sum of all costs, and 1 while any fell
-pub measure : List ℕ → Bool → ℕ
-measure t true = suc (sum 256 (λ k. get_or t k 0))
-measure t false = sum 256 (λ k. get_or t k 0)
-
-measure_less :
-    {words : List ℕ} {states step low : ℕ} {t t' : List ℕ} (fell' : Bool) → PassDone words states step low t t' fell' →
-    measure t' fell' < measure t true
-unfolding measure
-measure_less {t = t} {t' = t'} true p = less (sum 256 (λ k. get_or t' k 0)) (sum 256 (λ k. get_or t k 0)) (p.less refl)
-  where
-    less : (a b : ℕ) → a < b → suc a < suc b
-    less a b l = omega arith
-measure_less {t = t} {t' = t'} false p =
-    less (sum 256 (λ k. get_or t' k 0)) (sum 256 (λ k. get_or t k 0)) (sum_le 256 (λ k. get_or t' k 0) (λ k. get_or t k 0) (λ k l. p.falls k))
-  where
-    less : (a b : ℕ) → a ≤ b → a < suc b
-    less a b l = omega arith
-
-pub lowering_less :
-    {words : List ℕ} {states step low : ℕ} {t t' : List ℕ} {fell fell' : Bool} → fell ≡ true → PassDone words states step low t t' fell' →
-    measure t' fell' < measure t fell
-lowering_less {fell' = fell'} e p = rw e (measure_less fell' p)
 
 -- each cost is that of a walk of no letters
 start : (M : Machine) (step : ℕ) (t : List ℕ) (n : ℕ) → CostsIn n (Cost M step (Seeds t)) t
@@ -227,7 +202,7 @@ start M step t n u v lu lv l = record { k = 0; n = entry t u v; all = omega (ari
 
 module _ {words : List ℕ} {states step : ℕ} {t₀ : List ℕ} (asked : LoweringAsked words states step t₀) where
   pub lowering_none :
-      {low : ℕ} → low ≤ no_cost → ((k : ℕ) → k < 256 → low ≤ get_or t₀ k 0) → LoweringSoFar words states step low t₀ t₀ true
+      {low : ℕ} → low ≤ no_cost → ((k : ℕ) → k < 256 → low ≤ get_or t₀ k 0) → LoweringSoFar words states step low t₀ t₀
   lowering_none l h =
       record {
         low_high = l;
@@ -235,10 +210,9 @@ module _ {words : List ℕ} {states step : ℕ} {t₀ : List ℕ} (asked : Lower
         low_least = h;
         costs = λ M w e. start M step t₀ states;
         falls = λ k. omega arith;
-        still = λ e. absurd (true≢false e);
       }
 
-  pub lowering_asked : {low : ℕ} {t : List ℕ} {fell : Bool} → LoweringSoFar words states step low t₀ t fell → PassAsked words states step low t
+  pub lowering_asked : {low : ℕ} {t : List ℕ} → LoweringSoFar words states step low t₀ t → PassAsked words states step low t
   lowering_asked s =
       record {
         shape = asked.shape;
@@ -250,8 +224,8 @@ module _ {words : List ℕ} {states step : ℕ} {t₀ : List ℕ} (asked : Lower
       }
 
   pub lowering_more :
-      {low : ℕ} {t t' : List ℕ} {fell fell' : Bool} → LoweringSoFar words states step low t₀ t fell → PassDone words states step low t t' fell' →
-      LoweringSoFar words states step low t₀ t' fell'
+      {low : ℕ} {t t' : List ℕ} {fell : Bool} → LoweringSoFar words states step low t₀ t → PassDone words states step low t t' fell →
+      LoweringSoFar words states step low t₀ t'
   lowering_more s p =
       record {
         low_high = s.low_high;
@@ -259,31 +233,32 @@ module _ {words : List ℕ} {states step : ℕ} {t₀ : List ℕ} (asked : Lower
         low_least = p.low_least;
         costs = λ M w e. p.costs M t₀ w e (s.costs M w e);
         falls = λ k. omega (arith, s.falls k, p.falls k);
-        still = p.still;
       }
 
+  -- in the last pass none falls
   pub lowering_done :
-      {low : ℕ} {t : List ℕ} {fell : Bool} → LoweringSoFar words states step low t₀ t fell → fell ≡ false → LoweringDone words states step t₀ t
-  lowering_done {low} {t} s none M w e =
+      {low : ℕ} {t t' : List ℕ} → LoweringSoFar words states step low t₀ t → PassDone words states step low t t' false →
+      LoweringDone words states step t₀ t'
+  lowering_done {low} {t} {t'} s p M w e =
       record {
-        size = s.table.size;
+        size = p.table.size;
         at = λ u v lu lv. record {
-          high = s.table.high (16 * u + v);
-          holds = s.costs M w e u v lu lv;
+          high = p.table.high (16 * u + v);
+          holds = p.costs M t₀ w e (s.costs M w e) u v lu lv;
           least = λ n c. omega (arith, c.all, least c.k c.n u v (omega arith) (omega arith) c.reach);
         };
       }
     where
       -- no walk costs less, by its letters
-      least : (k n u v : ℕ) → u < M.states → v < M.states → Reach M (Seeds t₀ n) k u v → entry t u v ≤ step * k + n
-      least zero n u v lu lv r = omega (arith, mul-zero step, r.0, s.falls (16 * u + v))
+      least : (k n u v : ℕ) → u < M.states → v < M.states → Reach M (Seeds t₀ n) k u v → entry t' u v ≤ step * k + n
+      least zero n u v lu lv r = omega (arith, mul-zero step, r.0, s.falls (16 * u + v), p.falls (16 * u + v))
       least (suc k) n u v lu lv r =
           let x_below : r.s < M.states = rw r.step.to₁ at (w.total u r.i lu r.step.below₁) in
           let y_below : r.t < M.states = rw r.step.to₂ at (w.total v r.j lv r.step.below₂) in
           let has = w.has u v r.s r.t lu lv (record { i = r.i; j = r.j; edge = r.step }) in
           let few = w.few in
           let below = least k n r.s r.t x_below y_below r.within in
-          let c : NextCost words t states (16 * u + v) (entry t r.s r.t) =
+          let c : NextCost words t' states (16 * u + v) (entry t' r.s r.t) =
           record { x = r.s; below = omega arith; row = record { y = r.t; within = has; is = refl } } in
-          let one = s.still none (16 * u + v) _ (omega arith) c in
+          let one = p.still refl (16 * u + v) _ (omega arith) c in
           omega (arith, mul-suc step k)

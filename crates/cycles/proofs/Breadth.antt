@@ -269,3 +269,31 @@ module _ {words : List ℕ} {states u v : ℕ} (k : u < states) (l : v < states)
         capped_limit (λ M S e j c.
         let m = s.met M S e in
         absurd (none u v (m.itself (met_all S (omega arith) (omega arith) m s.low none j u v c.letter c.closed))))
+
+-- ---- before the next letter
+
+-- What is made of a set of pairs and those met before it: once parted, the sets after k letters.
+pub record Ahead (words : List ℕ) (states u v k : ℕ) (set seen : List ℕ) : Type 0 where
+  pub rows : Rows set
+  pub rows' : Rows seen
+  pub parts :
+      k < too_long → {set' seen' : List ℕ} {r : Bool} → Parted set seen set' seen' r → Searched words states u v k set' seen' r
+  pub limit : k ≡ too_long → Found words states u v too_long
+
+module _ {words : List ℕ} {states u v : ℕ} (k : u < states) (l : v < states) where
+  pub ahead_first :
+      {none none' to : List ℕ} → Rows none' → ((x : ℕ) → get_or none x 0 ≡ 0) → ((x : ℕ) → get_or none' x 0 ≡ 0) →
+      WithBesides (λ x y. Has (word_at words (16 * u + v) x) y) none to → Ahead words states u v 1 to none'
+  ahead_first b z z' w =
+      record { rows = w.rows; rows' = b; parts = λ _ p. searched_first k l z z' w p; limit = λ e. absurd (omega arith) }
+
+  pub ahead_more :
+      {n : ℕ} {set seen to : List ℕ} {r : Bool} → Searched words states u v n set seen r → (In set u v → ⊥) →
+      ExactlyPairs (FollowsSet words states set) to → Ahead words states u v (n + 1) to seen
+  ahead_more s not w =
+      record {
+        rows = w.rows;
+        rows' = s.rows';
+        parts = λ h p. searched_more k l s not h w p;
+        limit = λ e. searched_limit k l s not e;
+      }

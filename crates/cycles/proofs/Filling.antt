@@ -1,11 +1,13 @@
 -- The words of the pairs of states, as they are made step by step.
-use mathlib.Core.Path.{◌≡◌}
+use mathlib.Core.Path.{◌≡◌, refl, subst₂}
 use mathlib.Core.List.{List}
 use Prim.Native.Nat.{ℕ, ◌+◌, ◌*◌, ◌/◌, ◌%◌, ◌<◌, ◌≤◌}
 use native.Mathlib.Omega.{arith}
-use lib.ListN.{get_or}
+use lib.Bits.{bit_or}
+use lib.ListN.{get_or, set}
+use Rattle.mealy.specs.Word.{Holds}
 use Rattle.mealy.proofs.Members.{holds_member}
-use Rattle.mealy.proofs.StepWords.{StepGives, StepsTaken, steps_bound}
+use Rattle.mealy.proofs.StepWords.{StepGives, StepsTaken, steps_more, steps_bound}
 use Rattle.cycles.specs.Successors.{GivesOutput, StateJoins, SuccessorsFilled}
 
 -- Step 16 p + v: the entry at place p, and those of state v with its output.
@@ -14,6 +16,19 @@ place_of next k = 16 * (16 * (k / 16 / 16) + k % 16) + get_or next (k / 16) 0
 
 abbrev pub GivesAt : List ℕ → List ℕ → ℕ → ℕ → ℕ → Type 0
 GivesAt output to inputs k y = GivesOutput output to inputs (k / 16) (k % 16) y
+
+-- Step 16 p + v, in the terms of p and v.
+pub steps_pair :
+    (next output to : List ℕ) {inputs p v g : ℕ} {words : List ℕ} → v < 16 → p < 256 → get_or next p 0 < 16 →
+    StepsTaken (place_of next) (GivesAt output to inputs) 4096 (16 * p + v) words → Holds (GivesOutput output to inputs p v) g →
+    (StepsTaken (place_of next) (GivesAt output to inputs) 4096 (16 * p + (v + 1))
+    (set words (16 * (16 * (p / 16) + v) + get_or next p 0) (bit_or (get_or words (16 * (16 * (p / 16) + v) + get_or next p 0) 0) g)))
+steps_pair next output to {inputs} {p} {v} {g} {words} l b h t w =
+    let q : p ≡ (16 * p + v) / 16 = omega arith in
+    let r : v ≡ (16 * p + v) % 16 = omega arith in
+    let e : place_of next (16 * p + v) ≡ 16 * (16 * (p / 16) + v) + get_or next p 0 = rw (← q, ← r) refl in
+    let m : 16 * p + v + 1 ≡ 16 * p + (v + 1) = omega arith in
+    rw (← m, ← e) (steps_more t (rw e (omega arith)) (subst₂ (λ a b. Holds (GivesOutput output to inputs a b) g) q r w))
 
 pub steps_filled :
     {next output to : List ℕ} {states inputs : ℕ} {words : List ℕ} → states ≤ 16 → ((p : ℕ) → get_or next p 0 < 16) →

@@ -1,20 +1,21 @@
 -- Sets of pairs, row by row: as they are made, united and parted.
 use mathlib.Core.Path.{◌≡◌, refl, ◌∙◌}
-use mathlib.Core.Logic.{◌≢◌, ◌⊎◌, inl, inr, ⊎_elim}
+use mathlib.Core.Logic.{◌⊎◌, inl, inr, ⊎_elim}
 use mathlib.Core.Bool.{Bool, false}
 use mathlib.Core.List.{List}
 use Prim.Native.Nat.{ℕ, ◌+◌, ◌-◌, ◌*◌, ◌/◌, ◌%◌, ◌^◌, ◌<◌}
 use native.Mathlib.Decide.{ℕ_discrete, dec_lt}
 use native.Mathlib.Omega.{arith}
 use lib.Bits.{bit_and, bit_or, and_lt, or_lt}
-use lib.Count.{count_trailing_zeros}
-use lib.ListN.{length, get_or, set, get_or-eq_default}
+use lib.ListN.{length, get_or, set, replicate, get_or-eq_default}
 use Rattle.mealy.specs.Word.{Has}
 use Rattle.mealy.proofs.Words.{has_left, has_right, has_or, has_empty, has_both, has_and, has_not, not_has}
 use Rattle.mealy.specs.Image.{Image}
 use Rattle.mealy.proofs.OneMore.{next_below, more_image, image_cases}
 use Rattle.mealy.proofs.Members.{has_below, Rest, IsPassed, rest_whole, none_passed, all_passed, rest_less, one_passed}
-use Rattle.coder.proofs.Fill.{Filled, filled_none, filled_more}
+use Rattle.setting.specs.Members.{Least}
+use Rattle.setting.specs.declared.inner.members.Members.{Members}
+use Rattle.coder.proofs.Fill.{Filled, filled_none, filled_more, get_or_zeros}
 use Rattle.cycles.specs.Successors.{In, Rows, word_at, WithBesides, FollowsRow, FollowsSet, ExactlyPairs, Parted}
 
 -- the pairs of a set are pairs of numbers below 16
@@ -24,6 +25,10 @@ in_below {s} r x y h =
       | yes l ↦ (l, has_below y (r.bound x) h)
       | no n ↦ absurd (has_empty y (rw (get_or-eq_default s 0 {n = x} (omega (arith, r.size))) at h))
     ]
+
+-- no pair
+pub rows_none : Rows (replicate 16 0)
+rows_none = record { size = refl; bound = λ x. omega (arith, get_or_zeros 16 x) }
 
 -- ---- one row after the other
 
@@ -103,15 +108,15 @@ module _ {words : List ℕ} {u row : ℕ} {s : List ℕ} where
   row_none l b = record { left = rest_whole l; passed = besides_none b (λ x. none_passed) }
 
   pub row_more :
-      {t r : List ℕ} {rest : ℕ} → RowPassed words u row s t rest → rest ≢ 0 →
-      WithBesides (λ x y. Has (word_at words (16 * u + count_trailing_zeros 16 rest) x) y) t r →
-      RowPassed words u row s r (bit_and rest (rest - 1))
-  row_more p n w =
-      let m = one_passed p.left n in
-      record {
-        left = rest_less p.left n;
-        passed = besides_map (λ x. more_image m) (λ x. image_cases m) (besides_then p.passed w);
-      }
+      {t r : List ℕ} {m n : Members} {v : ℕ} → Least m v n → RowPassed words u row s t m.rest →
+      WithBesides (λ x y. Has (word_at words (16 * u + v) x) y) t r → RowPassed words u row s r n.rest
+  row_more q p w =
+      let o = one_passed p.left q.some in
+      rw q.left
+      (record {
+        left = rest_less p.left q.some;
+        passed = besides_map (λ x. more_image o) (λ x. image_cases o) (besides_then p.passed (rw q.least at w));
+      })
 
   pub row_all : {r : List ℕ} {rest : ℕ} → RowPassed words u row s r rest → rest ≡ 0 → WithBesides (FollowsRow words u row) s r
   row_all p e =
@@ -150,28 +155,23 @@ abbrev pub fresh_row : List ℕ → List ℕ → ℕ → ℕ
 fresh_row to seen x = bit_and (get_or to x 0) (65535 - get_or seen x 0)
 
 -- the first n rows of both sets are parted
-pub record RowsParted (to seen to' seen' : List ℕ) (r : Bool) (n : ℕ) : Type 0 where
+pub record RowsParted (to seen to' seen' : List ℕ) (n : ℕ) : Type 0 where
   pub fresh : Filled 16 (fresh_row to seen) to n to'
   pub more : Filled 16 (besides (fresh_row to seen) seen) seen n seen'
-  pub some : r ≡ false → (x : ℕ) → x < n → fresh_row to seen x ≡ 0
 
 module _ {to seen : List ℕ} where
-  pub parted_none : length to ≡ 16 → length seen ≡ 16 → RowsParted to seen to seen false 0
-  parted_none d e = record { fresh = filled_none d; more = filled_none e; some = λ q x l. absurd (omega arith) }
+  pub parted_none : length to ≡ 16 → length seen ≡ 16 → RowsParted to seen to seen 0
+  parted_none d e = record { fresh = filled_none d; more = filled_none e }
 
   pub parted_more :
-      {to' seen' : List ℕ} {r r' : Bool} {n v w : ℕ} → RowsParted to seen to' seen' r n → n < 16 →
+      {to' seen' : List ℕ} {n v w : ℕ} → RowsParted to seen to' seen' n → n < 16 →
       v ≡ bit_and (get_or to' n 0) (65535 - get_or seen' n 0) → w ≡ bit_or (get_or seen' n 0) v →
-      (r' ≡ false → (r ≡ false) × (v ≡ 0)) → RowsParted to seen (set to' n v) (set seen' n w) r' (n + 1)
-  parted_more {to'} {seen'} {r} {r'} {n} {v} {w} a l e f g =
+      RowsParted to seen (set to' n v) (set seen' n w) (n + 1)
+  parted_more {to'} {seen'} {n} {v} {w} a l e f =
       let q : v ≡ fresh_row to seen n = e ∙ rw (a.fresh.left n (omega arith), a.more.left n (omega arith)) refl in
       record {
         fresh = filled_more a.fresh l q;
         more = filled_more a.more l (f ∙ rw (q, a.more.left n (omega arith)) refl);
-        some = λ z x m. elim (ℕ_discrete x n) [
-          | yes h ↦ rw (h, ← q) (g z).1
-          | no d ↦ a.some (g z).0 x (omega arith)
-        ];
       }
 
   module _ (b : Rows to) (d : Rows seen) where
@@ -188,8 +188,9 @@ module _ {to seen : List ℕ} where
         (k.0, not_has (get_or seen x 0) y (d.bound x) (has_below y (b.bound x) k.0) k.1)
 
     pub parted_all :
-        {to' seen' : List ℕ} {r : Bool} {n : ℕ} → RowsParted to seen to' seen' r n → n ≡ 16 → Parted to seen to' seen' r
-    parted_all {to'} {seen'} {r} {n} a e =
+        {to' seen' : List ℕ} {r : Bool} {n : ℕ} → RowsParted to seen to' seen' n → n ≡ 16 →
+        (r ≡ false → (x : ℕ) → x < 16 → get_or to' x 0 ≡ 0) → Parted to seen to' seen' r
+    parted_all {to'} {seen'} {r} {n} a e z =
         let w = besides_all a.more e d fresh_low in
         record {
           fresh = record {
@@ -207,5 +208,5 @@ module _ {to seen : List ℕ} where
                 ]);
             only = λ x y l h. ⊎_elim (λ k. inl k) (λ k. inr (fresh_has x y k).0) (w.only x y l h);
           };
-          some = λ q x y l h. has_empty y (rw (a.fresh.is x (omega arith), a.some q x (omega arith)) at h);
+          some = λ q x y l h. has_empty y (rw (z q x l) at h);
         }

@@ -2,7 +2,7 @@
 use mathlib.Core.Path.{◌≡◌, refl, sym, ◌∙◌}
 use mathlib.Core.Logic.{◌≢◌}
 use mathlib.Core.List.{List}
-use Prim.Native.Nat.{ℕ, zero, suc, ◌+◌, ◌*◌, ◌/◌, ◌%◌, ◌≤◌, ◌<◌}
+use Prim.Native.Nat.{ℕ, zero, suc, ◌+◌, ◌*◌, ◌≤◌, ◌<◌}
 use native.Mathlib.Decide.{ℕ_discrete, dec_le}
 use native.Mathlib.Omega.{arith}
 use lib.ListN.{length, get_or, set, length-set}
@@ -65,9 +65,9 @@ module _ {words : List ℕ} {states : ℕ} where
   pub costs_none : {t : List ℕ} → length t ≡ 256 → LoopsBelow words states t 0
   costs_none e = record { size = e; at = λ u v k l m. absurd (omega arith); same = λ u v k l m. absurd (omega arith) }
 
-  -- a place whose pair is met the other way round
-  pub costs_skip : {t : List ℕ} {a : ℕ} → LoopsBelow words states t a → a / 16 < a % 16 → LoopsBelow words states t (a + 1)
-  costs_skip w l =
+  -- the rest of a row has pairs that are met the other way round
+  pub costs_row : {t : List ℕ} (u : ℕ) → LoopsBelow words states t (16 * u + (u + 1)) → LoopsBelow words states t (16 * (u + 1))
+  costs_row u w =
       record {
         size = w.size;
         at = λ u' v' k' l' m. w.at u' v' k' l' (omega arith);
@@ -75,9 +75,9 @@ module _ {words : List ℕ} {states : ℕ} where
       }
 
   pub costs_more :
-      {t : List ℕ} {a c : ℕ} (u v : ℕ) → LoopsBelow words states t a → a ≡ 16 * u + v → u < 16 → v ≤ u → CostFound words states u v c →
-      LoopsBelow words states (set (set t (16 * u + v) c) (16 * v + u) c) (a + 1)
-  costs_more {t} {a} {c} u v w e k l f =
+      {t : List ℕ} {c : ℕ} (u v : ℕ) → LoopsBelow words states t (16 * u + v) → u < 16 → v ≤ u → CostFound words states u v c →
+      LoopsBelow words states (set (set t (16 * u + v) c) (16 * v + u) c) (16 * u + (v + 1))
+  costs_more {t} {c} u v w k l f =
       let p = 16 * u + v in
       let q = 16 * v + u in
       record {

@@ -3,6 +3,7 @@
 use mathlib.Core.Path.{◌≡◌, refl}
 use mathlib.Core.Bool.{true}
 use mathlib.Core.List.{List}
+use Rattle.std.specs.Prelude.{Result}
 use Prim.Native.Nat.{ℕ, ◌+◌, ◌≤◌, ◌<◌}
 use native.Mathlib.Omega.{arith}
 use lib.ListN.{length, get_or, take, drop}
@@ -14,10 +15,10 @@ use Rattle.mealy.proofs.RunParts.{length_outs}
 use Rattle.mealy.proofs.ComesBack.{comes_back_at}
 use Rattle.mealy.proofs.StartStates.{start_take}
 use Rattle.coder.specs.File.{inputs_of, machine_of}
+use Rattle.coder.specs.declared.refusal.Refusal.{Refusal}
 use Rattle.fitting.proofs.Answers.{right_byte_unique}
 use Rattle.values.specs.Window.{size}
 use Rattle.values.specs.declared.Window.{Window}
-use Rattle.values.specs.declared.CountResult.{CountResult}
 use Rattle.decoder_refusal.specs.Refusal.{places, string_refusal_in}
 use Rattle.decoder.specs.Written.{Written}
 use Rattle.decoder.specs.Window.{window_setting}
@@ -39,7 +40,7 @@ place_comes_back f w s xs works start letters k l ahead =
     }
 
 pub string_comes_back :
-    (f : List ℕ) (w : Window) (s : ℕ) (xs before : List ℕ) (r : CountResult) (after : List ℕ) →
+    (f : List ℕ) (w : Window) (s : ℕ) (xs before : List ℕ) (r : Result ℕ Refusal) (after : List ℕ) →
     Works (window_setting f w) w.before w.after → Reachable (machine_of f) s → Letters (inputs_of f) xs →
     string_refusal_in f w (outs (machine_of f) s xs) (length before) true ≡ 0 →
     StringPromise f w (outs (machine_of f) s xs) before r after → (k : ℕ) → k < places (length xs) w → w.settle ≤ k →

@@ -2,8 +2,11 @@
 use mathlib.Core.Path.{◌≡◌, refl, sym, ap, subst}
 use mathlib.Core.List.{List, ◌++◌}
 use Prim.Native.Nat.{ℕ, ◌^◌, ◌≤◌, ◌<◌}
+use native.Mathlib.Omega.{arith}
 use lib.ListN.{length, take, drop}
-use Rattle.mealy.specs.Machine.{Machine}
+use Rattle.mealy.specs.Machine.{Machine, Letters}
+use Rattle.mealy.proofs.Letters.{letters_higher}
+use Rattle.coder.specs.Limits.{max_outputs}
 use Rattle.mealy.specs.Setting.{Same, after_letters}
 use Rattle.mealy.specs.Answer.{Fits}
 use Rattle.mealy.proofs.Words.{holds_map, holds_empty}
@@ -45,6 +48,9 @@ pub record CoderOf (c : Coder) (f : List ℕ) : Type 0 where
   pub is : c ≡ coder_of f
   pub file : file_refusal f ≡ 0
 
+pub coder_itself : {f : List ℕ} → file_refusal f ≡ 0 → CoderOf (coder_of f) f
+coder_itself z = record { is = refl; file = z }
+
 module _ {c : Coder} {f : List ℕ} (h : CoderOf c f) where
   -- it meets what the functions on tables ask
   pub sound_of : Sound c
@@ -53,6 +59,11 @@ module _ {c : Coder} {f : List ℕ} (h : CoderOf c f) where
   pub outputs_of_lem : c.outputs ≡ outputs_of f
   unfolding coder_of
   outputs_of_lem = ap (λ (d : Coder). d.outputs) h.is
+
+  -- the output letters of the file are among all output letters
+  pub low_letters : (received : List ℕ) → Letters (outputs_of f) received → Letters max_outputs received
+  low_letters received =
+      letters_higher (outputs_of f) max_outputs received (omega (arith, sound_of.outputs_high, outputs_of_lem))
 
   pub keys_of : Keys c.output c.states c.inputs
   keys_of = output_keys c sound_of
@@ -69,12 +80,11 @@ module _ {c : Coder} {f : List ℕ} (h : CoderOf c f) where
         subst (λ (M : Machine). Same (from_word c starts) (after_letters M p)) (coder_machine h.is (accepted f h.file))
         (same_word c p s)
 
-    fits_of : (w : List ℕ) (b : ℕ) {u : ℕ} → Holds (Fits (from_word c starts) w b) u → Holds (Fits (setting_after f p) w b) u
+    pub fits_of : (w : List ℕ) (b : ℕ) {u : ℕ} → Holds (Fits (from_word c starts) w b) u → Holds (Fits (setting_after f p) w b) u
     fits_of w b = holds_map (fits_same same_file w b) (fits_same (same_sym same_file) w b)
 
-    pub decoded_of :
-        (w : List ℕ) (b : ℕ) {u far : ℕ} → DecodedIn (from_word c starts) w b u far → DecodedIn (setting_after f p) w b u far
-    decoded_of w b d = record { fits = fits_of w b d.fits; count = λ z. far_same same_file w _ (d.count z) }
+    pub decoded_of : (w : List ℕ) (b : ℕ) {v : Answer} → DecodedIn (from_word c starts) w b v → Right (setting_after f p) w b v
+    decoded_of w b d = rw d.is (holds_right (fits_of w b d.fits) (λ z. far_same same_file w _ (d.count z)))
 
     pub byte_of : (w : List ℕ) (b : ℕ) {v : ℕ} → RightByte (from_word c starts) w b v → RightByte (setting_after f p) w b v
     byte_of w b {v} r = byte_same same_file w b v r
@@ -127,7 +137,7 @@ pub file_fits :
     (f : List ℕ) → file_refusal f ≡ 0 → (p : ℕ) (w : List ℕ) (b : ℕ) → b < length w →
     Holds (Fits (setting_after f p) w b) (fitting_word (coder_of f) (starts_of f p) w b)
 file_fits f z p w b l =
-    let h : CoderOf (coder_of f) f = record { is = refl; file = z } in
+    let h = coder_itself z in
     let same = coder_machine h.is (accepted f z) in
     let s = subst (λ M. Holds (after_letters M p).Start (starts_of f p)) (sym same) (file_starts f z p) in
     fits_of h p s w b (word_fits (coder_of f) (sound_of h) (starts_of f p) w b (starts_of_lem h p s).low l)

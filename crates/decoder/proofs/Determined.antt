@@ -7,24 +7,25 @@ use Prim.Native.Nat.{ℕ, zero, suc, ◌≤◌, ◌<◌}
 use native.Mathlib.Omega.{arith}
 use lib.ListN.{length, take, drop, length-drop}
 use lib.Seq.{length-take-le}
+use Rattle.std.specs.Prelude.{Result, Ok}
 use Rattle.mealy.specs.Answer.{byte_of}
 use Rattle.mealy.specs.Index.{window_at}
 use Rattle.mealy.proofs.Indices.{length_window}
 use Rattle.coder.specs.File.{file_refusal, outputs_of, setting_after}
 use Rattle.fitting.specs.Answer.{meaning, RightByte}
+use Rattle.fitting.specs.declared.Answer.{Answer}
 use Rattle.fitting.proofs.Answers.{right_unique, right_byte, right_byte_unique}
 use Rattle.coder.specs.Refusal.{upon}
+use Rattle.coder.specs.declared.refusal.Refusal.{Refusal}
+use Rattle.coder.specs.Refused.{Refused}
 use Rattle.values.specs.Window.{size}
 use Rattle.values.specs.declared.Window.{Window}
-use Rattle.values.specs.declared.CountResult as count
 use Rattle.decoder_refusal.specs.Refusal.{window_refusal, string_refusal_in, table_refusal_in}
 use Rattle.decoder.specs.Written.{Written}
 use Rattle.decoder.specs.Count.{CountPromise}
 use Rattle.decoder.specs.Window.{window_setting, AnsweredRight, WindowWith}
 use Rattle.decoder.specs.Places.{StringWith}
 use Rattle.decoder.specs.Table.{TableWith}
-use Rattle.decoder.specs.declared.WindowResult.{WindowResult}
-use Rattle.decoder.specs.declared.WindowResult.TheVariants.{Refused, Answered}
 use Rattle.decoder_refusal.proofs.Accepting.{window_accepted, string_accepted, table_accepted}
 use Rattle.decoder.proofs.Asking.{string_asked, table_asked}
 use Rattle.decoder.proofs.Writing.{written_front, written_unique}
@@ -33,7 +34,7 @@ use Rattle.decoder.proofs.Decoding.{decoded, file_right}
 -- ---- one window
 
 module _ (f : List ℕ) (w : Window) (received : List ℕ) (others : Bool) where
-  pub window_determined : (r r' : WindowResult) → WindowWith f w received others r → WindowWith f w received others r' → r ≡ r'
+  pub window_determined : (r r' : Result Answer Refusal) → WindowWith f w received others r → WindowWith f w received others r' → r ≡ r'
   window_determined r r' = go (window_refusal f w received others)
     where
       go :
@@ -41,20 +42,20 @@ module _ (f : List ℕ) (w : Window) (received : List ℕ) (others : Bool) where
           upon k (λ j. r' ≡ Refused j) (AnsweredRight f w received r') → r ≡ r'
       go zero p q =
           p.is
-          ∙ ap (λ v. Answered v) (right_unique (window_setting f w) received w.before p.answer q.answer p.right q.right)
+          ∙ ap (λ v. Ok v) (right_unique (window_setting f w) received w.before p.answer q.answer p.right q.right)
           ∙ sym q.is
       go (suc k) p q = p ∙ sym q
 
-  pub window_exists : (r : WindowResult) × WindowWith f w received others r
+  pub window_exists : (r : Result Answer Refusal) × WindowWith f w received others r
   window_exists = go (window_refusal f w received others) refl
     where
       go :
           (k : ℕ) → window_refusal f w received others ≡ k →
-          (r : WindowResult) × upon k (λ j. r ≡ Refused j) (AnsweredRight f w received r)
+          (r : Result Answer Refusal) × upon k (λ j. r ≡ Refused j) (AnsweredRight f w received r)
       go zero e =
           let h = window_accepted f w received others e in
           let v = decoded f w.settle received w.before in (
-            Answered v,
+            Ok v,
             record { answer = v; is = refl; right = file_right f h.limits.file w.settle received w.before (omega (arith, h.long)) },
           )
       go (suc k) e = (Refused (suc k), refl)
@@ -81,11 +82,11 @@ module _ (f : List ℕ) (p b : ℕ) (part : ℕ → List ℕ) (n k : ℕ) (befor
   abbrev ByteOf : ℕ → ℕ → Type 0
   ByteOf j v = RightByte (setting_after f p) (part j) b v
 
-  abbrev Promise : count.CountResult → List ℕ → Type 0
+  abbrev Promise : Result ℕ Refusal → List ℕ → Type 0
   Promise r after = CountPromise k n ByteOf before r after
 
   parts_determined :
-      (r r' : count.CountResult) (after after' : List ℕ) → Promise r after → Promise r' after' → (r ≡ r') × (after ≡ after')
+      (r r' : Result ℕ Refusal) (after after' : List ℕ) → Promise r after → Promise r' after' → (r ≡ r') × (after ≡ after')
   parts_determined r r' after after' x y = (
     x.result ∙ sym y.result,
     bytes_determined ByteOf n before after after' k (λ j v u. right_byte_unique (setting_after f p) (part j) b) x.bytes y.bytes,
@@ -93,7 +94,7 @@ module _ (f : List ℕ) (p b : ℕ) (part : ℕ → List ℕ) (n k : ℕ) (befor
 
   parts_exist :
       (k ≡ 0 → (file_refusal f ≡ 0) × (n ≤ length before) × ((j : ℕ) → j < n → b < length (part j))) →
-      (r : count.CountResult) × (after : List ℕ) × Promise r after
+      (r : Result ℕ Refusal) × (after : List ℕ) × Promise r after
   parts_exist h =
       let e =
       bytes_exist ByteOf n before (λ j. byte_of (meaning (decoded f p (part j) b))) k
@@ -110,11 +111,11 @@ module _ (f : List ℕ) (p b : ℕ) (part : ℕ → List ℕ) (n k : ℕ) (befor
 
 module _ (f : List ℕ) (w : Window) (received before : List ℕ) (others : Bool) where
   pub string_determined :
-      (r r' : count.CountResult) (after after' : List ℕ) → StringWith f w received before others r after →
+      (r r' : Result ℕ Refusal) (after after' : List ℕ) → StringWith f w received before others r after →
       StringWith f w received before others r' after' → (r ≡ r') × (after ≡ after')
   string_determined = parts_determined f w.settle w.before (λ j. take (size w) (drop j received)) _ _ before
 
-  pub string_exists : (r : count.CountResult) × (after : List ℕ) × StringWith f w received before others r after
+  pub string_exists : (r : Result ℕ Refusal) × (after : List ℕ) × StringWith f w received before others r after
   string_exists =
       parts_exist f w.settle w.before (λ j. take (size w) (drop j received)) _
       (string_refusal_in f w received (length before) others) before
@@ -131,11 +132,11 @@ module _ (f : List ℕ) (w : Window) (received before : List ℕ) (others : Bool
 
 module _ (f : List ℕ) (w : Window) (before : List ℕ) (others : Bool) where
   pub table_determined :
-      (r r' : count.CountResult) (after after' : List ℕ) → TableWith f w before others r after →
+      (r r' : Result ℕ Refusal) (after after' : List ℕ) → TableWith f w before others r after →
       TableWith f w before others r' after' → (r ≡ r') × (after ≡ after')
   table_determined = parts_determined f w.settle w.before (window_at (outputs_of f) (size w)) _ _ before
 
-  pub table_exists : (r : count.CountResult) × (after : List ℕ) × TableWith f w before others r after
+  pub table_exists : (r : Result ℕ Refusal) × (after : List ℕ) × TableWith f w before others r after
   table_exists =
       parts_exist f w.settle w.before (window_at (outputs_of f) (size w)) _ (table_refusal_in f w (length before) others) before
       (λ z. (

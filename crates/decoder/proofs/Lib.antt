@@ -1,7 +1,6 @@
 -- Laws of the decoder's calls.
 pub mod Asking
 pub mod Writing
-pub mod Counting
 pub mod Decoding
 pub mod Determined
 pub mod ComeBack

@@ -1,11 +1,11 @@
 -- A string: the call's promise, place by place.
-use Rattle.std.specs.Prelude.{ℕ, ◌+◌, ◌-◌, ◌≤◌, ◌<◌, ◌≡◌, Bool, true, List, length, take, drop}
+use Rattle.std.specs.Prelude.{ℕ, ◌+◌, ◌-◌, ◌≤◌, ◌<◌, ◌≡◌, Bool, true, List, length, take, drop, Result}
 use Rattle.mealy.specs.Machine.{Letters}
 use Rattle.coder.specs.Limits.{max_outputs}
 use Rattle.coder.specs.declared.inner.tables.Coder.{Coder}
+use Rattle.coder.specs.declared.refusal.Refusal.{Refusal}
 use Rattle.values.specs.Window.{size}
 use Rattle.values.specs.declared.Window.{Window}
-use Rattle.values.specs.declared.CountResult.{CountResult}
 use Rattle.fitting.specs.Answer.{RightByte}
 use Rattle.setting.specs.Words.{from_word}
 use Rattle.fitting.specs.Tables.{TablesOf, Tables}
@@ -20,13 +20,13 @@ abbrev pub ByteAt : List ℕ → List ℕ → Window → ℕ → ℕ → Type 0
 ByteAt f received w k v = RightByte (window_setting f w) (take (size w) (drop k received)) w.before v
 
 -- The first refusal that applies, or a right byte for each place with a full window.
-abbrev pub StringWith : List ℕ → Window → List ℕ → List ℕ → Bool → CountResult → List ℕ → Type 0
+abbrev pub StringWith : List ℕ → Window → List ℕ → List ℕ → Bool → Result ℕ Refusal → List ℕ → Type 0
 StringWith f w received before others r after =
     CountPromise (string_refusal_in f w received (length before) others) (places (length received) w) (ByteAt f received w)
     before r after
 
 -- The library's own call lends no other buffer.
-abbrev pub StringPromise : List ℕ → Window → List ℕ → List ℕ → CountResult → List ℕ → Type 0
+abbrev pub StringPromise : List ℕ → Window → List ℕ → List ℕ → Result ℕ Refusal → List ℕ → Type 0
 StringPromise f w received before r after = StringWith f w received before true r after
 
 -- what the checked part of the call asks: no refusal, and room for each byte

@@ -1,14 +1,13 @@
 -- The decoder for a host in C: one window, a string and a table, their results laid out, and the calls' promises.
-use Rattle.std.specs.Prelude.{ℕ, List, [], ◌∷◌}
+use Rattle.std.specs.Prelude.{ℕ, List, [], ◌∷◌, Result}
 use Rattle.values.specs.declared.Window.{Window}
 use Rattle.fitting.specs.declared.Answer.{Answer}
 use Rattle.fitting.specs.declared.Answer.TheVariants.{Letter, None, Several}
-use Rattle.layout.specs.Host.{Laid, refused, done, laid_count, FromHost}
+use Rattle.layout.specs.Host.{Laid, laid, laid_count, FromHost}
 use Rattle.decoder.specs.Window.{WindowWith}
 use Rattle.decoder.specs.Places.{StringWith}
 use Rattle.decoder.specs.Table.{TableWith}
-use Rattle.decoder.specs.declared.WindowResult.{WindowResult}
-use Rattle.decoder.specs.declared.WindowResult.TheVariants.{Refused, Answered}
+use Rattle.coder.specs.declared.refusal.Refusal.{Refusal}
 
 -- The fields of an answer: the letter that alone fits; 254 for "none", with its count (document 02, 9/13, second sentence) in field 1; or
 -- 255 for "several" ("Decoding", third sentence).
@@ -17,9 +16,8 @@ answer_fields (Letter x) = x ∷ []
 answer_fields (None k) = 254 ∷ k ∷ []
 answer_fields Several = 255 ∷ []
 
-abbrev pub laid_window : WindowResult → Laid
-laid_window (Refused k) = refused k
-laid_window (Answered v) = done (answer_fields v)
+abbrev pub laid_window : Result Answer Refusal → Laid
+laid_window = laid answer_fields
 
 -- Demand 2, second sentence, for a host.
 abbrev pub WindowFromHost : List ℕ → Window → List ℕ → List ℕ → ℕ → List ℕ → Type 0

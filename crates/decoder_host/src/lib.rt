@@ -3,16 +3,13 @@
 
 ghost use Rattle.std.specs.Prelude.{◌≤◌, ◌≡◌, length};
 ghost use Rattle.layout.specs.Layout.{result_bytes, with_fields};
-ghost use Rattle.layout.specs.Host.{LaidOut, HasRoom};
 ghost use Rattle.values.specs.Window.{window as window_of};
-ghost use Rattle.decoder_host.specs.Laid.{answer_fields, laid_window, WindowFromHost, StringFromHost, TableFromHost};
+ghost use Rattle.decoder_host.specs.Laid.{answer_fields, WindowFromHost, StringFromHost, TableFromHost};
 
-use coder::inner::bytes::number;
-use decoder::WindowResult;
 use decoder::inner::calls;
 use fitting::Answer;
 use fitting::inner::answer::{NONE, SEVERAL};
-use layout::inner::{put_count, put_one, put_two, roomy};
+use layout::inner::{put_count, put_fields, roomy};
 use values::Window;
 
 // The fields of an answer.
@@ -21,33 +18,14 @@ fn put_answer(res: &mut [u8], answer: Answer)
     ensures { res.new ≡ with_fields res.old (answer_fields answer) }
 {
     match answer {
-        Answer::Letter(x) => {
-            put_one(res, number(x));
-        }
-        Answer::None(far) => {
-            put_two(res, number(NONE), far);
-        }
-        Answer::Several => {
-            put_one(res, number(SEVERAL));
-        }
-    }
-}
-
-// The fields of a window's result: what is returned for it.
-fn put(own: WindowResult, res: &mut [u8]) -> usize
-    requires { HasRoom (laid_window own) res.old }
-    ensures { LaidOut (laid_window own) res.old result res.new }
-{
-    match own {
-        WindowResult::Refused(k) => k,
-        WindowResult::Answered(answer) => {
-            put_answer(res, answer);
-            0
-        }
+        Answer::Letter(x) => put_fields(res, &[usize::from(x)]),
+        Answer::None(far) => put_fields(res, &[usize::from(NONE), far]),
+        Answer::Several => put_fields(res, &[usize::from(SEVERAL)]),
     }
 }
 
 // Decodes one window of received letters. The file's refusals, 8, 14, 9, 11, 13.
+#[tactic(auto, using(crate::proofs::Hosting::window_enough), unfolding(layout::specs::Layout::fields_of))]
 pub fn window(
     file: &[u8],
     before: usize,
@@ -64,8 +42,13 @@ pub fn window(
         after,
         settle,
     };
-    let own = calls::window(file, w, received, roomy(res.len()));
-    put(own, res)
+    match calls::window(file, w, received, roomy(res.len())) {
+        Ok(answer) => {
+            put_answer(res, answer);
+            0
+        }
+        Err(refusal) => refusal.number(),
+    }
 }
 
 // Decodes each place of a string that has a full window. The file's refusals, 8, 14, 11, 13.

@@ -1,4 +1,4 @@
--- What a call that is not refused may rely on.
+-- What a call that is not refused may rely on. Each refusal is a number of the list.
 use mathlib.Core.Path.{◌≡◌}
 use mathlib.Core.Bool.{Bool, true, not}
 use mathlib.Core.List.{List}
@@ -11,13 +11,15 @@ use Rattle.mealy.specs.Machine.{Letters}
 use Rattle.coder.specs.Limits.{max_side, max_settle}
 use Rattle.coder.specs.Refusal.{refuse, first, letters_below}
 use Rattle.coder.specs.File.{file_refusal, outputs_of}
-use Rattle.coder.proofs.Refusals.{both_true, refuse_not, first_none, letters_below_lem}
+use Rattle.coder.proofs.Refusals.{both_true, refuse_not, refuse_either, first_either, first_none, letters_below_lem}
+use Rattle.coder.proofs.FileNumbers.{file_number}
 use Rattle.coder.proofs.Accepted.{accepted}
 use Rattle.table_size.specs.Size.{max_table}
 use Rattle.table_size.specs.Cases.{table_allowed}
 use Rattle.table_size.proofs.Exact.{cases_exact}
 use Rattle.window_limits.specs.Refusal.{sides_refusal, settle_refusal, received_refusal, SidesSmall}
 use Rattle.window_limits.proofs.Limits.{sides_accepted, sides_pass, settle_accepted, settle_pass, received_accepted}
+use Rattle.window_limits.proofs.Limits.{sides_known, settle_known}
 use Rattle.values.specs.Window.{size}
 use Rattle.values.specs.declared.Window.{Window}
 use Rattle.decoder_refusal.specs.Refusal.{limits_refusal, window_refusal, string_refusal, table_size, table_refusal, places}
@@ -121,3 +123,17 @@ table_by_cases f w t fits z e = rw (z, ← table_allowed_lem f w z, e)
 pub table_others :
     (f : List ℕ) (w : Window) (room : ℕ) (others : Bool) → table_refusal_in f w room others ≡ 0 → others ≡ true
 table_others f w room others e = (both_true (leb (table_size (outputs_of f) w) room) others (table_accepted f w _ e).fits).1
+
+-- ---- each refusal is a number of the list
+
+pub limits_known : (f : List ℕ) (w : Window) → limits_refusal f w ≤ 17
+unfolding limits_refusal
+limits_known f w =
+    first_either (λ k. k ≤ 17) _ _ (file_number (λ k. k ≤ 17) (λ k l. omega arith) (omega arith) f)
+    (first_either (λ k. k ≤ 17) _ _ (sides_known w.before w.after) (settle_known w.settle))
+
+pub table_known : (f : List ℕ) (w : Window) (fit : Bool) → table_refusal f w fit ≤ 17
+unfolding table_refusal
+table_known f w fit =
+    first_either (λ k. k ≤ 17) _ _ (limits_known f w)
+    (refuse_either (λ k. k ≤ 17) _ 10 _ (omega arith) (refuse_either (λ k. k ≤ 17) _ 11 0 (omega arith) (omega arith)))

@@ -53,13 +53,16 @@ module _ {next start entries : List ℕ} {outputs : ℕ} {v : List ℕ} {left pr
   pub part_next : (p : ℕ) → get_or next p 0 < 16
   part_next p = rw a.next_is (omega (arith, a.rows.sound.states_high, next_high a.coder a.rows.sound p))
 
-  pub last_asked : left ≡ 1 → LastAsked start entries outputs v table
+  pub last_long : left ≡ 1 → length table ≡ outputs
+  last_long z = a.size ∙ rw z (power_one outputs)
+
+  pub last_asked : left ≡ 1 → LastAsked start entries (length table) v table
   last_asked z =
       record {
         rows = part_rows;
         words = a.words;
-        outputs_high = a.outputs_high;
-        size = a.size ∙ rw z (power_one outputs);
+        outputs_high = rw (last_long z) a.outputs_high;
+        size = refl;
       }
 
 -- ---- the last letter
@@ -157,6 +160,10 @@ byte_digits {c} {j = j} v outputs m present o sound words e q l t h =
     (λ x f. from_after M (SetsIn c v) o w present x (from_map (sets_after sound v o (eqb present 1) words t) f))
     (λ x f. from_map (after_sets sound v o (eqb present 1) words t) (after_from M (SetsIn c v) o w present x (sets_within c v) f))
     h)
+
+pub less_one : (n : ℕ) → n - 1 ≡ pred n
+less_one zero = omega arith
+less_one (suc n) = omega arith
 
 -- the parts of the first o letters are filled
 pub record Filling (next start entries : List ℕ) (outputs : ℕ) (v : List ℕ) (left present size after : ℕ)

@@ -1,7 +1,7 @@
 -- The least number with a cap: of none, of one number, of two sets one after the other, and of all that loops pass.
 use mathlib.Core.Path.{◌≡◌, refl, subst}
 use mathlib.Core.Logic.{◌≢◌, ◌⊎◌, inl, inr, ⊎_elim}
-use Prim.Native.Nat.{ℕ, ◌+◌, ◌-◌, ◌<◌, ◌≤◌}
+use Prim.Native.Nat.{ℕ, ◌+◌, ◌-◌, ◌<◌, min}
 use native.Mathlib.Decide.{dec_lt}
 use native.Mathlib.Omega.{arith}
 use lib.Bits.{bit_and}
@@ -42,12 +42,9 @@ capped_more :
     Capped (Q x) so_far r → Capped (Image Q P') cap r
 capped_more m a h = capped_map (more_image m) (image_cases m) (capped_then a h)
 
--- one number n, read as m: it falls below the cap, or it does not
-pub capped_lower : {n m cap : ℕ} → n ≡ m → m < cap → Capped (λ k. n ≡ k) cap m
-capped_lower e l = record { high = omega arith; holds = λ k. e; least = λ k q. omega arith }
-
-pub capped_kept : {n m cap : ℕ} → n ≡ m → cap ≤ m → Capped (λ k. n ≡ k) cap cap
-capped_kept e l = record { high = omega arith; holds = λ k. absurd (omega arith); least = λ k q. omega arith }
+-- one number n, read as m
+pub capped_min : {n m cap r : ℕ} → n ≡ m → r ≡ min cap m → Capped (λ k. n ≡ k) cap r
+capped_min e l = record { high = omega arith; holds = λ k. omega arith; least = λ k q. omega arith }
 
 -- ---- a loop over the members of a set
 

@@ -15,12 +15,16 @@ use Rattle.mealy.specs.Answer as mealy
 use Rattle.mealy.specs.Word.{Holds}
 use Rattle.mealy.proofs.Answers.{answer_unique, no_fit↔no_run}
 use Rattle.mealy.proofs.SameSettings.{answers_same}
-use Rattle.mealy.proofs.Words.{shifted, holds_empty, holds_greatest, holds_another, has_alone}
+use Rattle.mealy.proofs.Words.{shifted, holds_empty, holds_greatest, holds_another, has_alone, leading_high}
 use Rattle.fitting.specs.Answer.{meaning, Right, RightByte, greatest, answer_of, ByteOf}
 use Rattle.fitting.specs.declared.Answer.{Answer}
 use Rattle.fitting.specs.declared.Answer.TheVariants.{Letter, None, Several}
 
 -- ---- as it is made
+
+pub no_letter : (far : ℕ) → None far ≡ answer_of 0 far
+unfolding answer_of
+no_letter far = refl
 
 module _ (u far : ℕ) (n : u ≡ 0 → ⊥) where
   made : 1 * 2 ^ greatest u % 2 ^ 16 ≡ 2 ^ greatest u
@@ -33,6 +37,9 @@ module _ (u far : ℕ) (n : u ≡ 0 → ⊥) where
   pub one_letter : u ≡ 1 * 2 ^ greatest u % 2 ^ 16 → Letter (greatest u) ≡ answer_of u far
   unfolding answer_of
   one_letter e = rw (ne_eqb u 0 n, eq-eqb u (2 ^ greatest u) (e ∙ made))
+
+-- what `answer_of` needs
+pub ruleset answering = (several_letters, one_letter, leading_high)
 
 -- ---- what it means
 

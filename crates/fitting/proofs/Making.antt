@@ -7,11 +7,15 @@ use Rattle.mealy.specs.Word.{Holds}
 use Rattle.mealy.proofs.Words.{holds_map}
 use Rattle.mealy.proofs.Members.{holds_itself}
 use Rattle.mealy.proofs.StepWords.{StepsTaken}
-use Rattle.fitting.specs.Tables.{Gives, ByOutput, Leads}
+use Rattle.fitting.specs.Tables.{Gives, EntriesAsked, ByOutput, Leads}
 
 -- step p: the entry at place p gives its value to the word of its key and its output letter
 abbrev pub word_of : List ℕ → List ℕ → ℕ → ℕ
 word_of keys output p = 16 * get_or output p 0 + get_or keys p 0
+
+pub word_below :
+    {values : List ℕ} {states : ℕ} (keys output : List ℕ) (p : ℕ) → EntriesAsked keys values output states → word_of keys output p < 1024
+word_below keys output p a = omega (arith, a.keys_high p, a.output_high p)
 
 pub steps_by_output :
     {keys values output : List ℕ} {states inputs : ℕ} {words : List ℕ} → ((p : ℕ) → get_or keys p 0 < 16) →

@@ -24,6 +24,8 @@ use Rattle.coder.specs.declared.inner.tables.Coder.{Coder}
 use Rattle.coder.proofs.Tables.{table_at_lem, table_place, next_high, output_high}
 use Rattle.chains.specs.Parts.{place_part, place_parts}
 use Rattle.setting.specs.Words.{from_word, StartWord}
+use Rattle.fitting.specs.Answer.{answer_of}
+use Rattle.fitting.specs.declared.Answer.{Answer}
 use Rattle.fitting.specs.Tables.{GivenBelow, EntriesAsked, ByOutput, Leads, OnLetter, FittingIn, TablesAsked, TablesOf, DecodedIn}
 
 -- what making the tables asks, of a sound coder
@@ -232,13 +234,17 @@ module _ {c : Coder} {next successors predecessors letters : List ℕ} {starts :
       (far_map (led (Leads successors) (Successor N) to_successor w l) (led (Successor N) (Leads successors) from_successor w l) h)
 
   pub decoded_in :
-      (w : List ℕ) (b : ℕ) {u far : ℕ} → Letters 64 w → b < length w → Holds (FittingIn next successors letters (Has starts) w b) u →
-      (u ≡ 0 → FarIn (Leads successors) (Has starts) w far) → DecodedIn (from_word c starts) w b u far
-  decoded_in w b l m h leads =
+      (w : List ℕ) (b : ℕ) {u far : ℕ} {v : Answer} → Letters 64 w → b < length w →
+      Holds (FittingIn next successors letters (Has starts) w b) u → (u ≡ 0 → FarIn (Leads successors) (Has starts) w far) →
+      v ≡ answer_of u far → DecodedIn (from_word c starts) w b v
+  decoded_in w b l m h leads e =
       let fits = fits_in w b l h in
       record {
+        letters = _;
+        far = _;
         fits = fits;
         count = λ z. far_in w l ((no_fit↔no_run (from_word c starts) w b m).0 (holds_empty fits z)) (leads z);
+        is = e;
       }
 
 -- Where no run from the states of the word gives the letters, there is a count.

@@ -1,10 +1,10 @@
 -- Sets of states along the letters, by the words that hold them.
-use mathlib.Core.Path.{◌≡◌, refl}
+use mathlib.Core.Path.{◌≡◌}
 use mathlib.Core.List.{List, [], ◌∷◌}
-use Prim.Native.Nat.{ℕ, zero, suc, ◌+◌, ◌<◌, ◌≤◌}
+use Prim.Native.Nat.{ℕ, suc, ◌+◌, ◌<◌, ◌≤◌}
 use native.Mathlib.Numerals.{add-one}
 use native.Mathlib.Omega.{arith}
-use lib.ListN.{length, get_or, drop}
+use lib.ListN.{length, get_or, drop, drop_of_length-le}
 use lib.Seq.{drop-cons}
 use Rattle.mealy.specs.Word.{Has, Holds}
 use Rattle.mealy.specs.Image.{Image, Transitions, Following, FarIn}
@@ -12,12 +12,6 @@ use Rattle.mealy.proofs.Words.{holds_map, holds_none, holds_empty, has_empty}
 use Rattle.mealy.proofs.Members.{holds_member, holds_itself}
 use Rattle.mealy.proofs.Images.{following_same, following_none}
 use Rattle.mealy.proofs.Possible.{far_none, far_later, far_states}
-
-pub drop_none : (w : List ℕ) (k : ℕ) → length w ≤ k → drop k w ≡ []
-drop_none [] zero l = refl
-drop_none [] (suc k) l = refl
-drop_none (x ∷ w) zero l = absurd (omega arith)
-drop_none (x ∷ w) (suc k) l = drop_none w k (omega arith)
 
 -- the first k letters of w lead from `set` to `to`: what follows the others from there follows all of them
 pub record Followed (R : Transitions) (w : List ℕ) (set k to : ℕ) : Type 0 where
@@ -44,7 +38,7 @@ module _ {R : Transitions} {w : List ℕ} {set k to : ℕ} (a : Followed R w set
 
   -- none is left, or no state is
   pub followed_all : length w ≤ k → Holds (Following R (Has set) w) to
-  followed_all l = a.rest to (rw (drop_none w k l) (holds_itself a.bound))
+  followed_all l = a.rest to (rw (drop_of_length-le w l) (holds_itself a.bound))
 
   pub followed_empty : to ≡ 0 → Holds (Following R (Has set) w) 0
   followed_empty e = a.rest 0 (holds_none (following_none R (drop k w) (λ s h. has_empty s (rw e at h))))
@@ -80,5 +74,5 @@ module _ {R : Transitions} {w : List ℕ} {set k to : ℕ} (a : StillLeads R w s
         (rw (drop-cons w k 0 l, ← e) (far_none R (o ∷ drop (suc k) w) to a.bound a.some (λ m r. holds_empty h z r.t r.is)))
 
   -- none is left
-  pub still_all : length w ≤ k → FarIn R (Has set) w k
-  still_all l = a.leads 0 k (omega arith) (rw (drop_none w k l) (far_none R [] to a.bound a.some (λ m r. absurd (omega arith))))
+  pub still_all : k ≡ length w → FarIn R (Has set) w (length w)
+  still_all e = let l : length w ≤ k = omega arith in a.leads 0 (length w) (omega arith) (rw (drop_of_length-le w l) (far_none R [] to a.bound a.some (λ m r. absurd (omega arith))))

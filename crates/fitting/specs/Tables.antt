@@ -11,6 +11,8 @@ use Rattle.coder.specs.Limits.{max_states, max_outputs}
 use Rattle.coder.specs.Table.{Sound}
 use Rattle.coder.specs.declared.inner.tables.Coder.{Coder}
 use Rattle.chains.specs.Parts.{place_parts}
+use Rattle.fitting.specs.Answer.{answer_of}
+use Rattle.fitting.specs.declared.Answer.{Answer}
 use Rattle.setting.specs.Words.{from_word, StartWord}
 
 -- the entry at place p, if there is one, has the value x
@@ -103,13 +105,16 @@ PresentGiven next predecessors letters o set after r =
     (successors : List ℕ) → TablesAsked next successors predecessors letters →
     Holds (FittingIn next successors letters (Has set) (o ∷ after) 0) r
 
--- what a window decodes to, for runs that start in the states of a setting: the letters that fit; and, where none does, how far it was
--- possible
-pub record DecodedIn (S : Setting) (w : List ℕ) (b letters far : ℕ) : Type 0 where
+-- what a window decodes to, for runs that start in the states of a setting: the answer of the letters that fit; and, where none does, of
+-- how far it was possible
+pub record DecodedIn (S : Setting) (w : List ℕ) (b : ℕ) (v : Answer) : Type 0 where
+  pub letters : ℕ
+  pub far : ℕ
   pub fits : Holds (Fits S w b) letters
   pub count : letters ≡ 0 → HowFar S w far
+  pub is : v ≡ answer_of letters far
 
 -- for runs that start in the states of the word, and for every coder whose tables these are
-abbrev pub DecodeGiven : List ℕ → List ℕ → List ℕ → List ℕ → ℕ → List ℕ → ℕ → ℕ → ℕ → Type 0
-DecodeGiven next successors predecessors letters starts window b fit far =
-    (c : Coder) → TablesOf c next successors predecessors letters starts → DecodedIn (from_word c starts) window b fit far
+abbrev pub DecodeGiven : List ℕ → List ℕ → List ℕ → List ℕ → ℕ → List ℕ → ℕ → Answer → Type 0
+DecodeGiven next successors predecessors letters starts window b v =
+    (c : Coder) → TablesOf c next successors predecessors letters starts → DecodedIn (from_word c starts) window b v

@@ -3,11 +3,12 @@ use mathlib.Core.Path.{◌≡◌}
 use mathlib.Core.Bool.{Bool}
 use mathlib.Core.List.{List}
 use Prim.Native.Nat.{ℕ}
-use Rattle.values.specs.declared.CountResult.{CountResult}
+use Rattle.std.specs.Prelude.{Result}
+use Rattle.coder.specs.declared.refusal.Refusal.{Refusal}
 use Rattle.writer.proofs.Determined.{file_determined}
 use Rattle.joining.specs.Join.{JoinWith}
 
 pub join_determined :
-    (f g before : List ℕ) (others : Bool) (r r' : CountResult) (after after' : List ℕ) → JoinWith f g before others r after →
+    (f g before : List ℕ) (others : Bool) (r r' : Result ℕ Refusal) (after after' : List ℕ) → JoinWith f g before others r after →
     JoinWith f g before others r' after' → (r ≡ r') × (after ≡ after')
 join_determined f g before others r r' after after' = file_determined

@@ -1,12 +1,11 @@
 -- What a call that is not refused may rely on.
 use mathlib.Core.Path.{◌≡◌}
-use mathlib.Core.Bool.{Bool, true, false, not}
+use mathlib.Core.Bool.{Bool, true, not}
 use mathlib.Core.List.{List}
-use Prim.Native.Nat.{ℕ, ◌*◌, ◌≤◌, ◌<◌}
-use native.Mathlib.Nat.{mul-le-mul, le_of_suc-le-suc}
+use Prim.Native.Nat.{ℕ, ◌*◌}
 use lib.ListN.{length}
 use lib.Dec.{lit<, leb, eqb}
-use borrow.Author.Tests.{leb-true, eqb-true, eq-eqb, ne_eqb}
+use borrow.Author.Tests.{leb-true, eqb-true}
 use Rattle.coder.specs.Refusal.{refuse, first}
 use Rattle.coder.specs.Limits.{max_states}
 use Rattle.coder.specs.File.{states_of, inputs_of, outputs_of, file_refusal}
@@ -38,20 +37,3 @@ join_asked f g before others e =
     let a = join_accepted f g _ e in
     let b = both_true (leb (length (joined_file f g)) (length before)) others a.fit in
     (record { matches = a.matches; room = leb-true _ _ b.0 }, b.1)
-
--- ---- products of bytes
-
-pub bytes_small : {x y : ℕ} → x < 256 → y < 256 → x * y ≤ 65025
-bytes_small l m = mul-le-mul (le_of_suc-le-suc l) (le_of_suc-le-suc m)
-
-pub three_small : {x y z : ℕ} → x < 256 → y < 256 → z < 256 → x * y * z ≤ 16581375
-three_small l m n = mul-le-mul (bytes_small l m) (le_of_suc-le-suc n)
-
--- ---- 17's test, by the first O and the second I
-
-pub matching_by_states :
-    (f g : List ℕ) {n m : ℕ} → outputs_of f ≡ inputs_of g → n ≡ states_of f → m ≡ states_of g → leb (n * m) max_states ≡ matching f g
-matching_by_states f g same e d = rw (eq-eqb (outputs_of f) (inputs_of g) same, e, d)
-
-pub not_matching : (f g : List ℕ) → (outputs_of f ≡ inputs_of g → ⊥) → false ≡ matching f g
-not_matching f g other = rw (ne_eqb (outputs_of f) (inputs_of g) other)

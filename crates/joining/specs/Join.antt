@@ -1,11 +1,11 @@
 -- The call that joins two coders in a row (document 02, 11/13): its refusal, the file of the joined coder, its result and what it leaves in
 -- the lent buffer.
-use Rattle.std.specs.Prelude.{ℕ, ◌*◌, ◌≤◌, ◌≡◌, Bool, true, not, ◌&&◌, List, length, leb, eqb}
+use Rattle.std.specs.Prelude.{ℕ, ◌*◌, ◌≤◌, ◌≡◌, Bool, true, not, ◌&&◌, List, length, leb, eqb, Result}
 use Rattle.joined.specs.Joined.{joined}
 use Rattle.coder.specs.Refusal.{refuse, first}
 use Rattle.coder.specs.Limits.{max_states}
 use Rattle.coder.specs.File.{states_of, inputs_of, outputs_of, file_of, file_refusal, machine_of}
-use Rattle.values.specs.declared.CountResult.{CountResult}
+use Rattle.coder.specs.declared.refusal.Refusal.{Refusal}
 use Rattle.writer.specs.Write.{FilePromise}
 use Rattle.joining.specs.EntryBytes.{entry_bytes_of}
 
@@ -37,11 +37,11 @@ join_refusal_in f g room others = join_refusal f g (leb (length (joined_file f g
 
 -- The call's promise: the first refusal that applies and the buffer as it was; or the number of bytes, and the joined file with the
 -- buffer's old bytes after it. `others` says whether the other lent buffers are long enough.
-abbrev pub JoinWith : List ℕ → List ℕ → List ℕ → Bool → CountResult → List ℕ → Type 0
+abbrev pub JoinWith : List ℕ → List ℕ → List ℕ → Bool → Result ℕ Refusal → List ℕ → Type 0
 JoinWith f g before others r after = FilePromise (join_refusal_in f g (length before) others) (joined_file f g) before r after
 
 -- The library's own call lends no other buffer.
-abbrev pub JoinPromise : List ℕ → List ℕ → List ℕ → CountResult → List ℕ → Type 0
+abbrev pub JoinPromise : List ℕ → List ℕ → List ℕ → Result ℕ Refusal → List ℕ → Type 0
 JoinPromise f g before r after = JoinWith f g before true r after
 
 -- two accepted files that can be put in a row

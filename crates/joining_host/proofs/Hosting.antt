@@ -1,24 +1,25 @@
 -- Two coders in a row for a host in C: a call that is not refused has all lent buffers long enough, and its outcome is determined.
-use mathlib.Core.Path.{◌≡◌, refl, ap}
+use mathlib.Core.Path.{◌≡◌, ap}
 use mathlib.Core.Bool.{Bool, true}
 use mathlib.Core.List.{List}
 use Prim.Native.Nat.{ℕ}
 use lib.ListN.{length}
-use Rattle.values.specs.declared.CountResult.{CountResult}
-use Rattle.values.specs.declared.CountResult.TheVariants.{Refused}
+use mathlib.Core.List.{[], ◌∷◌}
+use Rattle.std.specs.Prelude.{Result}
+use Rattle.coder.specs.declared.refusal.Refusal.{Refusal}
 use Rattle.layout.specs.Host.{laid_count}
-use Rattle.layout.proofs.Hosting.{not_refused, same_host_buffer}
+use Rattle.layout.proofs.Hosting.{no_refusal, same_host_buffer}
 use Rattle.joining.specs.Join.{join_refusal_in, JoinWith}
 use Rattle.joining_host.specs.Laid.{JoinFromHost}
 use Rattle.joining.proofs.Joining.{join_asked}
 use Rattle.joining.proofs.Determined.{join_determined}
 
 pub join_others :
-    (f g before after : List ℕ) (others : Bool) (r : CountResult) → JoinWith f g before others r after → (laid_count r).returned ≡ 0 →
+    (f g before after : List ℕ) (others : Bool) (r : Result ℕ Refusal) → JoinWith f g before others r after → (laid_count r).returned ≡ 0 →
     others ≡ true
 join_others f g before after others r p z =
     (join_asked f g before others
-    (not_refused laid_count (join_refusal_in f g (length before) others) (λ j. Refused j) _ (λ j. refl) p.result z)).1
+    (no_refusal (λ m. m ∷ []) (join_refusal_in f g (length before) others) _ _ p.result z)).1
 
 pub join_host_determined :
     (f g before result : List ℕ) (r q : ℕ) (after after₂ result' result₂ : List ℕ) → JoinFromHost f g before result r after result' →

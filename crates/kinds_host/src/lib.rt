@@ -3,43 +3,24 @@
 
 ghost use Rattle.std.specs.Prelude.{◌≤◌, ◌≡◌, length};
 ghost use Rattle.layout.specs.Layout.{result_bytes, with_fields};
-ghost use Rattle.layout.specs.Host.{LaidOut, HasRoom};
-ghost use Rattle.kinds_host.specs.Laid.{kinds_fields, laid_kinds, answer_fields, laid_answer};
+ghost use Rattle.kinds_host.specs.Laid.{kinds_fields, answer_fields};
 ghost use Rattle.kinds_host.specs.Laid.{SearchKindsFromHost, WindowKindsFromHost};
 
-use chains::inner::wide;
-use coder::inner::bytes::number;
-use layout::inner::{put_fields, put_one, put_two, roomy};
-use search_kinds::{KindsResult, KindsVerdict};
-use window_kinds::{KindsAnswer, WindowKindsResult};
+use layout::inner::{put_fields, roomy};
+use search_kinds::Told;
+use window_kinds::KindsAnswer;
 
 // The fields of a report.
-fn put_report(res: &mut [u8], verdict: KindsVerdict)
+fn put_report(res: &mut [u8], verdict: Option<Told>)
     requires { result_bytes ≤ length res.old }
     ensures { res.new ≡ with_fields res.old (kinds_fields verdict) }
 {
     match verdict {
-        KindsVerdict::Cannot => {
-            put_one(res, 1);
-        }
-        KindsVerdict::Told { carried, window } => {
-            let numbers = [0, window.before, window.after, wide(carried)];
-            put_fields(res, &numbers[..]);
-        }
-    }
-}
-
-// The fields of a search's result: what is returned for it.
-fn put_search(own: KindsResult, res: &mut [u8]) -> usize
-    requires { HasRoom (laid_kinds own) res.old }
-    ensures { LaidOut (laid_kinds own) res.old result res.new }
-{
-    match own {
-        KindsResult::Refused(k) => k,
-        KindsResult::Found(verdict) => {
-            put_report(res, verdict);
-            0
-        }
+        None => put_fields(res, &[1]),
+        Some(Told { carried, window }) => put_fields(
+            res,
+            &[0, window.before, window.after, usize::from(carried)],
+        ),
     }
 }
 
@@ -49,32 +30,10 @@ fn put_answer(res: &mut [u8], answer: KindsAnswer)
     ensures { res.new ≡ with_fields res.old (answer_fields answer) }
 {
     match answer {
-        KindsAnswer::Letter(x) => {
-            put_two(res, 0, number(x));
-        }
-        KindsAnswer::Kind(k) => {
-            put_two(res, 1, number(k));
-        }
-        KindsAnswer::None => {
-            put_one(res, 2);
-        }
-        KindsAnswer::Several => {
-            put_one(res, 3);
-        }
-    }
-}
-
-// The fields of the decoder's result: what is returned for it.
-fn put_window(own: WindowKindsResult, res: &mut [u8]) -> usize
-    requires { HasRoom (laid_answer own) res.old }
-    ensures { LaidOut (laid_answer own) res.old result res.new }
-{
-    match own {
-        WindowKindsResult::Refused(k) => k,
-        WindowKindsResult::Answered(answer) => {
-            put_answer(res, answer);
-            0
-        }
+        KindsAnswer::Letter(x) => put_fields(res, &[0, usize::from(x)]),
+        KindsAnswer::Kind(k) => put_fields(res, &[1, usize::from(k)]),
+        KindsAnswer::None => put_fields(res, &[2]),
+        KindsAnswer::Several => put_fields(res, &[3]),
     }
 }
 
@@ -82,8 +41,13 @@ fn put_window(own: WindowKindsResult, res: &mut [u8]) -> usize
 pub fn search_kinds(file: &[u8], kinds: &[u8], res: &mut [u8]) -> usize
     ensures { SearchKindsFromHost file.now kinds.now res.old result res.new }
 {
-    let own = search_kinds::inner::search_kinds(file, kinds, roomy(res.len()));
-    put_search(own, res)
+    match search_kinds::inner::search_kinds(file, kinds, roomy(res.len())) {
+        Ok(verdict) => {
+            put_report(res, verdict);
+            0
+        }
+        Err(refusal) => refusal.number(),
+    }
 }
 
 // Decodes one window of received letters to a letter or a kind. The file's refusals, 16, 8, 9, 11, 13.
@@ -106,5 +70,11 @@ pub fn window_kinds(
         received,
         roomy(res.len()),
     );
-    put_window(own, res)
+    match own {
+        Ok(answer) => {
+            put_answer(res, answer);
+            0
+        }
+        Err(refusal) => refusal.number(),
+    }
 }

@@ -6,9 +6,13 @@ use mathlib.Core.List.{List, []}
 use Prim.Native.Nat.{ℕ, zero, suc, ◌≤◌}
 use lib.ListN.{length}
 use borrow.Author.Tests.{le-leb}
+use Rattle.std.specs.Prelude.{Result, Err}
+use Rattle.coder.specs.declared.refusal.Refusal.{Refusal}
 use Rattle.coder.specs.Refusal.{answer, upon}
+use Rattle.coder.specs.Refused.{number_of, refusal_of, Refused}
+use Rattle.coder.proofs.Refused.{number_some}
 use Rattle.layout.specs.Layout.{result_bytes, fields_of, with_fields}
-use Rattle.layout.specs.Host.{roomy, Laid, refused, LaidOut, Handed, FromHost}
+use Rattle.layout.specs.Host.{roomy, Laid, refused, laid, LaidOut, Handed, FromHost}
 
 -- ---- laying out
 
@@ -24,18 +28,26 @@ refused_out k result = record { number = refl; fields = sym (no_fields result) }
 pub out_as : {l l' : Laid} {result : List ℕ} {r : ℕ} {result' : List ℕ} → l ≡ l' → LaidOut l result r result' → LaidOut l' result r result'
 out_as e h = rw e at h
 
--- an own result by its refusal k: where nothing but 0 is returned for it, k is 0
+-- an own result by its refusal k: where 0 is returned for it, and more than 0 for every refusal, k is 0
 pub not_refused :
-    {R : Type 0} (laid : R → Laid) (k : ℕ) (refusing : ℕ → R) (d : R) {r : R} → ((j : ℕ) → (laid (refusing j)).returned ≡ j) →
-    r ≡ answer k refusing d → (laid r).returned ≡ 0 → k ≡ 0
-not_refused laid zero refusing d h e z = refl
-not_refused laid (suc k) refusing d h e z = sym (h (suc k)) ∙ ap (λ x. (laid x).returned) (sym e) ∙ z
+    {R : Type 0} (lay : R → Laid) (k : ℕ) (refusing : ℕ → R) (d : R) {r : R} → ((j : ℕ) → (lay (refusing (suc j))).returned ≡ 0 → ⊥) →
+    r ≡ answer k refusing d → (lay r).returned ≡ 0 → k ≡ 0
+not_refused lay zero refusing d h e z = refl
+not_refused lay (suc k) refusing d h e z = absurd (h k (ap (λ x. (lay x).returned) (sym e) ∙ z))
 
 pub not_refused_upon :
-    {R : Type 0} (laid : R → Laid) (k : ℕ) (refusing : ℕ → R) (Answered : Type 0) {r : R} → ((j : ℕ) → (laid (refusing j)).returned ≡ j) →
-    upon k (λ j. r ≡ refusing j) Answered → (laid r).returned ≡ 0 → k ≡ 0
-not_refused_upon laid zero refusing Answered h e z = refl
-not_refused_upon laid (suc k) refusing Answered h e z = sym (h (suc k)) ∙ ap (λ x. (laid x).returned) (sym e) ∙ z
+    {R : Type 0} (lay : R → Laid) (k : ℕ) (refusing : ℕ → R) (Answered : Type 0) {r : R} →
+    ((j : ℕ) → (lay (refusing (suc j))).returned ≡ 0 → ⊥) → upon k (λ j. r ≡ refusing j) Answered → (lay r).returned ≡ 0 → k ≡ 0
+not_refused_upon lay zero refusing Answered h e z = refl
+not_refused_upon lay (suc k) refusing Answered h e z = absurd (h k (ap (λ x. (lay x).returned) (sym e) ∙ z))
+
+-- of results that are laid out by their fields: a refusal has a number above 0
+module _ {A : Type 0} (fields : A → List ℕ) (k : ℕ) (r : Result A Refusal) where
+  pub no_refusal : (d : Result A Refusal) → r ≡ answer k (λ j. Refused j) d → (laid fields r).returned ≡ 0 → k ≡ 0
+  no_refusal d = not_refused (laid fields) k (λ j. Refused j) d (λ j. number_some (refusal_of (suc j)))
+
+  pub no_refusal_upon : (Answered : Type 0) → upon k (λ j. r ≡ Refused j) Answered → (laid fields r).returned ≡ 0 → k ≡ 0
+  no_refusal_upon Answered = not_refused_upon (laid fields) k (λ j. Refused j) Answered (λ j. number_some (refusal_of (suc j)))
 
 -- ---- one law for every call from C
 
@@ -78,3 +90,9 @@ module _ {R : Type 0} {laid laid₂ : R → Laid} {result : List ℕ} {r q : ℕ
       let e = u h.own h₂.own h.promised h₂.promised in
       let d = same_out e.0 h.out h₂.out in
       (d.0, (e.1, d.1))
+
+-- ---- a refusal and an answer, handed over
+
+module _ {A : Type 0} {Promise : Result A Refusal → Type 0} {fields : A → List ℕ} {result : List ℕ} where
+  pub refusal_handed : (e : Refusal) (r : ℕ) → r ≡ number_of e → Promise (Err e) → Handed Promise (laid fields) result r result
+  refusal_handed e r n p = record { own = Err e; promised = p; out = rw n (refused_out (number_of e) result) }

@@ -1,8 +1,8 @@
 -- A call from C is the library's own call with one lent buffer more, the result buffer, into which its result is laid (document 01, "What
 -- the part does", the sentences on calls from C). One definition for all calls: `FromHost`.
-use Rattle.std.specs.Prelude.{ℕ, ◌≤◌, ◌≡◌, Bool, List, [], ◌∷◌, length, leb}
-use Rattle.values.specs.declared.CountResult.{CountResult}
-use Rattle.values.specs.declared.CountResult.TheVariants.{Refused, Done}
+use Rattle.std.specs.Prelude.{ℕ, ◌≤◌, ◌≡◌, Bool, List, [], ◌∷◌, length, leb, Result, Ok, Err}
+use Rattle.coder.specs.declared.refusal.Refusal.{Refusal}
+use Rattle.coder.specs.Refused.{number_of}
 use Rattle.layout.specs.Layout.{result_bytes, with_fields}
 
 -- The result buffer is long enough; shorter is refusal 11, in its place among the refusals.
@@ -20,10 +20,14 @@ refused k = record { returned = k; fields = [] }
 abbrev pub done : List ℕ → Laid
 done fields = record { returned = 0; fields = fields }
 
+-- A result with these numbers in the fields, or a refusal: its number is returned.
+abbrev pub laid : {A : Type 0} → (A → List ℕ) → Result A Refusal → Laid
+laid fields (Ok x) = done (fields x)
+laid fields (Err e) = refused (number_of e)
+
 -- A number of bytes, or a refusal: field 0 is the number.
-abbrev pub laid_count : CountResult → Laid
-laid_count (Refused k) = refused k
-laid_count (Done n) = done (n ∷ [])
+abbrev pub laid_count : Result ℕ Refusal → Laid
+laid_count = laid (λ n. n ∷ [])
 
 -- It is laid out: r is returned, and the result buffer, which was `result`, is result'.
 pub record LaidOut (l : Laid) (result : List ℕ) (r : ℕ) (result' : List ℕ) : Type 0 where

@@ -20,6 +20,6 @@ fields_of (n ∷ ns) = field n ++ fields_of ns
 abbrev pub with_fields : List ℕ → List ℕ → List ℕ
 with_fields result ns = fields_of ns ++ drop (8 * length ns) result
 
--- Field k of a result buffer, as a host reads it. It is the number written there (`field_at` of proofs/Reading.antt).
+-- Field k of a result buffer, as a host reads it. It is the number written there (`field_at_lem` of proofs/Reading.antt).
 abbrev pub field_at : List ℕ → ℕ → ℕ
 field_at result k = from_big_endian (take 8 (drop (8 * k) result))

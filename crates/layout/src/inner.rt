@@ -4,7 +4,7 @@ ghost use Rattle.std.proofs.lemmas.List.Edits.{sets};
 ghost use Rattle.layout.specs.Layout.{result_bytes, field, with_fields};
 ghost use Rattle.layout.specs.Host.{laid_count, LaidOut, HasRoom};
 
-use values::CountResult;
+use coder::refusal::Refusal;
 
 // The bytes of the result buffer that each call from C wants.
 const RESULT: usize = 64;
@@ -20,10 +20,7 @@ pub fn roomy(len: usize) -> bool
 pub fn enough(n: usize, room: usize, others: bool) -> bool
     ensures { result ≡ (leb n room && others) }
 {
-    if n <= room {
-        return others;
-    }
-    false
+    n <= room && others
 }
 
 // Writes x into field k.
@@ -35,45 +32,27 @@ fn put_field(res: &mut [u8], k: usize, x: usize)
 }
 
 // Writes a list of numbers into the first fields.
+#[tactic(auto, using(crate::proofs::Placing::put_more), unfolding(crate::specs::Layout::fields_of))]
 pub fn put_fields(res: &mut [u8], numbers: &[usize])
     requires { 8 * length numbers.now ≤ length res.old }
     ensures { res.new ≡ with_fields res.old numbers.now }
 {
-    let mut k = 0;
-    while k < numbers.len() {
-        put_field(res, k, numbers[k]);
-        k += 1;
+    for (k, x) in numbers.iter().enumerate() {
+        put_field(res, k, *x);
     }
 }
 
-// One field.
-pub fn put_one(res: &mut [u8], x: usize)
-    requires { result_bytes ≤ length res.old }
-    ensures { res.new ≡ with_fields res.old (x ∷ []) }
-{
-    let numbers = [x];
-    put_fields(res, &numbers[..]);
-}
-
-// Two fields.
-pub fn put_two(res: &mut [u8], x: usize, y: usize)
-    requires { result_bytes ≤ length res.old }
-    ensures { res.new ≡ with_fields res.old (x ∷ y ∷ []) }
-{
-    let numbers = [x, y];
-    put_fields(res, &numbers[..]);
-}
-
 // A number of bytes, or a refusal: what is returned for it.
-pub fn put_count(own: CountResult, res: &mut [u8]) -> usize
+#[tactic(auto, unfolding(crate::specs::Layout::fields_of))]
+pub fn put_count(own: Result<usize, Refusal>, res: &mut [u8]) -> usize
     requires { HasRoom (laid_count own) res.old }
     ensures { LaidOut (laid_count own) res.old result res.new }
 {
     match own {
-        CountResult::Refused(k) => k,
-        CountResult::Done { count } => {
-            put_one(res, count);
+        Ok(count) => {
+            put_fields(res, &[count]);
             0
         }
+        Err(refusal) => refusal.number(),
     }
 }

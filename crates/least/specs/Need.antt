@@ -1,10 +1,11 @@
 -- The letters before that each lookahead needs, by the depths of the conflicting edges.
-use Rattle.std.specs.Prelude.{ℕ, ◌≤◌, ◌<◌, ◌≡◌, Bool, true, false, cond, List, length, get_or, set, ltb}
+use Rattle.std.specs.Prelude.{cond, ltb, ℕ, ◌≤◌, ◌<◌, ◌≡◌, Bool, true, false, List, length, get_or, set, Option, MatchOption}
 use Rattle.mealy.specs.Order.{Relation}
 use Rattle.coder.specs.Limits.{max_side}
 use Rattle.coder.specs.Table.{Sound}
 use Rattle.coder.specs.declared.inner.tables.Coder.{Coder}
-use Rattle.chains.specs.Chain.{is_entry, has_key, last_below, Chained}
+use Rattle.chains.specs.Chain.{is_entry, Chained}
+use Rattle.chains.specs.declared.inner.Chain.{Chain}
 use Rattle.product.specs.Depth.{endless}
 use Rattle.product.specs.Conflict.{Conflicting, back_of, forward_of, BothEndless, EndlessConflict}
 use Rattle.values.specs.declared.Window.{Window}
@@ -26,7 +27,7 @@ abbrev pub EachCounted : Coder → List ℕ → List (List ℕ) → List (List �
 EachCounted c conflicts backs forwards worst = (f : ℕ) → 0 < get_or worst f 0 → CountedAt c conflicts backs forwards f (get_or worst f 0)
 
 -- the table with x taken in at f
-unfoldable pub raised : List ℕ → ℕ → ℕ → List ℕ
+abbrev pub raised : List ℕ → ℕ → ℕ → List ℕ
 raised worst f x = cond (ltb (get_or worst f 0) x) (set worst f x) worst
 
 -- `later` has at least what `worst` has
@@ -48,20 +49,11 @@ pub record CountedOne (next : List ℕ) (backs forwards : List (List ℕ)) (p q 
   pub stays : r ≡ true → after ≡ before
   pub high : forward_of next forwards p q < 256
 
--- the entry at place p, and the chain of the entries with its output letter
-pub record RowOf (c : Coder) (previous next : List ℕ) (p from : ℕ) : Type 0 where
+-- the entry at place p of a coder whose entries are chained by output letter
+pub record RowOf (c : Coder) (chain : Chain) (p : ℕ) : Type 0 where
   pub sound : Sound c
-  pub next_is : next ≡ c.next
+  pub chained : Chained c.output c.states c.inputs chain
   pub entry : is_entry c.states c.inputs p ≡ true
-  pub from_is : from ≡ last_below (has_key c.output c.states c.inputs (get_or c.output p 0)) 256
-  pub previous_is :
-      (q : ℕ) → is_entry c.states c.inputs q ≡ true →
-      get_or previous q 0 ≡ last_below (has_key c.output c.states c.inputs (get_or c.output q 0)) q
-
-pub record RowAsked (previous next : List ℕ) (p from : ℕ) (before : List ℕ) : Type 0 where
-  pub c : Coder
-  pub of : RowOf c previous next p from
-  pub size : length before ≡ 256
 
 pub record RowDone (c : Coder) (conflicts : List ℕ) (backs forwards : List (List ℕ))
     (p : ℕ) (before : List ℕ) (r : Bool) (after : List ℕ) : Type 0 where
@@ -71,24 +63,14 @@ pub record RowDone (c : Coder) (conflicts : List ℕ) (backs forwards : List (Li
   pub none : r ≡ false → (q : ℕ) → Conflicting c conflicts p q → Counted c backs forwards after p q
   pub some : r ≡ true → (q : ℕ) × EndlessConflict c conflicts backs forwards p q
 
--- what `row` does, whatever coder its arrays are of
-abbrev pub RowCounted :
-    List ℕ → List ℕ → List ℕ → List (List ℕ) → List (List ℕ) → ℕ → ℕ → List ℕ → Bool → List ℕ → Type 0
-RowCounted previous next conflicts backs forwards p from before r after =
-    (c : Coder) → RowOf c previous next p from → RowDone c conflicts backs forwards p before r after
+-- all conflicting edges are counted in a table that has nothing else, or one is endless on both sides
+pub record AllCounted (c : Coder) (conflicts : List ℕ) (backs forwards : List (List ℕ)) (worst : List ℕ) : Type 0 where
+  pub sources : EachCounted c conflicts backs forwards worst
+  pub counted : (p q : ℕ) → Conflicting c conflicts p q → Counted c backs forwards worst p q
 
-pub record ConflictsAsked (c : Coder) (last previous before : List ℕ) : Type 0 where
-  pub size : length before ≡ 256
-  pub sound : Sound c
-  pub chained : Chained c.output c.states c.inputs (record { last = last; previous = previous })
-
--- all conflicting edges are counted, or one is endless on both sides
-pub record ConflictsDone (c : Coder) (conflicts : List ℕ) (backs forwards : List (List ℕ))
-    (before : List ℕ) (r : Bool) (after : List ℕ) : Type 0 where
-  pub size : length after ≡ 256
-  pub sources : EachCounted c conflicts backs forwards before → EachCounted c conflicts backs forwards after
-  pub none : r ≡ false → (p q : ℕ) → Conflicting c conflicts p q → Counted c backs forwards after p q
-  pub some : r ≡ true → (p : ℕ) × (q : ℕ) × EndlessConflict c conflicts backs forwards p q
+abbrev pub ConflictsDone : Coder → List ℕ → List (List ℕ) → List (List ℕ) → Option (List ℕ) → Type 0
+ConflictsDone c conflicts backs forwards r =
+    MatchOption r ((p : ℕ) × (q : ℕ) × EndlessConflict c conflicts backs forwards p q) (AllCounted c conflicts backs forwards)
 
 -- x is the most that the table has past place a
 pub record MostPast (worst : List ℕ) (a x : ℕ) : Type 0 where

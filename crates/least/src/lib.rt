@@ -2,10 +2,3 @@
 #![tactic(auto)]
 
 pub mod inner; // inner.rt: what the crates above call; no public calls
-
-// The least window in an order, or none where no window works.
-#[derive(Clone, Copy)]
-pub enum LeastWindow {
-    None,
-    Some(values::Window),
-}

@@ -4,7 +4,7 @@ use mathlib.Core.List.{List}
 use Prim.Native.Nat.{ℕ, ◌+◌, ◌*◌, ◌<◌}
 use native.Mathlib.Omega.{arith}
 use lib.Dec.{eqb}
-use lib.ListN.{length, get_or}
+use lib.ListN.{length, get_or, replicate, get_or-replicate}
 use Rattle.mealy.specs.Word.{Has}
 use Rattle.coder.specs.Refusal.{Judges}
 use Rattle.coder.specs.Table.{table_at, machine_of_coder}
@@ -68,6 +68,9 @@ module _ {c : Coder} {next output : List ℕ} {inputs : ℕ} (arrays : CoderArra
 -- word i has all letters
 abbrev pub AllLetters : List ℕ → Type 0
 AllLetters all = (length all ≡ 16) × ((i : ℕ) → i < 16 → get_or all i 0 ≡ 65535)
+
+pub all_letters : AllLetters (replicate 16 65535)
+all_letters = (refl, λ i l. get_or-replicate {A = ℕ} 16 i 65535 0 l)
 
 all_has : (all : List ℕ) → AllLetters all → (i j : ℕ) → i < 16 → j < 16 → Has (get_or all i 0) j
 all_has all a i j l m = rw (a.1 i l) (holds_all.has j m)

@@ -10,14 +10,10 @@ use Rattle.coder.specs.declared.inner.tables.Coder.{Coder}
 use Rattle.coder.proofs.Tables.{next_high}
 use Rattle.first_pair.specs.Lowest.{LowestOf, bytes_at}
 use Rattle.first_pair.proofs.Writing.{LowestSoFar, so_far_none, so_far_write, so_far_all}
-use Rattle.letters.specs.Walk.{EdgeTo, LowestAsked, AfterLetters, CoderArrays, CostOf, StatePair, SomeInto, WriteFrom, StaysOutside, Wrote}
+use Rattle.letters.specs.Walk.{EdgeTo, LowestAsked, AfterLetters, with_letters, CoderArrays, CostOf, StatePair, SomeInto, WriteFrom, StaysOutside, Wrote}
 use Rattle.letters.proofs.Edges.{AllLetters, table_is, some_edge, lowest_into}
 
 -- ---- the bytes
-
--- the letters i and j at a place
-abbrev pub with_letters : List ℕ → ℕ → ℕ → ℕ → List ℕ
-with_letters bytes at i j = set (set bytes (2 * at) i) (2 * at + 1) j
 
 with_other :
     (bytes : List ℕ) (at i j p : ℕ) → (p ≡ 2 * at → ⊥) → (p ≡ 2 * at + 1 → ⊥) → get_or (with_letters bytes at i j) p 0 ≡ get_or bytes p 0

@@ -1,5 +1,6 @@
 -- The lowest letters along a table of costs.
 use Rattle.std.specs.Prelude.{ℕ, suc, ◌+◌, ◌*◌, ◌/◌, ◌%◌, ◌≤◌, ◌<◌, ◌≡◌, List, length, get_or}
+use lib.ListN.{set}
 use Rattle.mealy.specs.Word.{Has}
 use Rattle.coder.specs.Table.{machine_of_coder, Sound}
 use Rattle.coder.specs.declared.inner.tables.Coder.{Coder}
@@ -33,6 +34,10 @@ pub record LowestAsked (next output : List ℕ) (inputs : ℕ) (allowed t : List
 abbrev pub AfterLetters : List ℕ → ℕ → ℕ → ℕ → Type 0
 AfterLetters next a letters r =
     r ≡ 16 * get_or next (16 * (a / 16) + letters / 16) 0 + get_or next (16 * (a % 16) + letters % 16) 0
+
+-- the letters i and j at a place
+abbrev pub with_letters : List ℕ → ℕ → ℕ → ℕ → List ℕ
+with_letters bytes at i j = set (set bytes (2 * at) i) (2 * at + 1) j
 
 -- the arrays are those of the coder c
 pub record CoderArrays (c : Coder) (next output : List ℕ) (inputs : ℕ) : Type 0 where

@@ -1,69 +1,44 @@
 // No public calls: the lowest letters along a table of costs, that of the pair (u, v) at 16 u + v. Some of these have a `requires`.
-ghost use Rattle.std.specs.Prelude.{◌≡◌, ℕ, ◌/◌, ◌%◌, ◌<◌, length, get_or};
+ghost use Rattle.std.specs.Prelude.{◌≡◌, ℕ, ◌+◌, ◌*◌, ◌/◌, ◌%◌, ◌<◌, length, get_or};
 ghost use Rattle.coder.specs.Refusal.{Judges};
 ghost use Rattle.first_pair.specs.Lowest.{LowestOf};
-ghost use Rattle.letters.specs.Walk.{EdgeTo, LowestAsked, AfterLetters, WriteAsked, WriteDone};
+ghost use Rattle.letters.specs.Walk.{EdgeTo, LowestAsked, AfterLetters, with_letters, WriteAsked, WriteDone};
 
-use coder::inner::bytes::number;
 use coder::inner::tables::Coder;
 use setting::inner::has;
 
-// All letters allowed beside each letter.
-pub fn all_letters() -> [u16; 16]
-    ensures { (length result ≡ 16) × ((i : ℕ) → i < 16 → get_or result i 0 ≡ 65535) }
-{
-    [65535u16; 16]
-}
-
-// Whether the letters i and j are on an allowed edge from (u, v) to a pair whose cost is `want`.
-fn edge_to<'a>(
-    next: &'a [u8; 256],
-    output: &'a [u8; 256],
-    inputs: usize,
-    allowed: &'a [u16; 16],
-    t: &'a [usize; 256],
+// Whether the letters 16 i + j with the number k are on an allowed edge from the pair a to a pair whose cost is `want`.
+fn edge_to(
+    c: &Coder,
+    allowed: &[u16; 16],
+    t: &[usize; 256],
     a: usize,
     want: usize,
     k: usize,
 ) -> bool
-    requires { (a < 256) × (k < 256) × ((p : ℕ) → get_or next.now p 0 < 16) }
-    ensures { Judges (EdgeTo next.now output.now inputs allowed.now t.now (a / 16) (a % 16) want (k / 16) (k % 16)) result }
+    requires { (a < 256) × (k < 256) × ((p : ℕ) → get_or c.now.next p 0 < 16) }
+    ensures { Judges (EdgeTo c.now.next c.now.output c.now.inputs allowed.now t.now (a / 16) (a % 16) want (k / 16) (k % 16)) result }
 {
     let i = k / Coder::INPUTS;
     let j = k % Coder::INPUTS;
-    if i < inputs {
-        if j < inputs {
-            let p = Coder::INPUTS * (a / Coder::STATES) + i;
-            let q = Coder::INPUTS * (a % Coder::STATES) + j;
-            if output[p] == output[q] {
-                if has(allowed[i], j) {
-                    return t[Coder::STATES * number(next[p]) + number(next[q])] == want;
-                }
-            }
-        }
-    }
-    false
+    let p = Coder::INPUTS * (a / Coder::STATES) + i;
+    let q = Coder::INPUTS * (a % Coder::STATES) + j;
+    i < c.inputs
+        && j < c.inputs
+        && c.output[p] == c.output[q]
+        && has(allowed[i], j)
+        && t[Coder::STATES * usize::from(c.next[p]) + usize::from(c.next[q])] == want
 }
 
 // The lowest letters on such an edge: 16 i + j.
-pub fn lowest<'a>(
-    next: &'a [u8; 256],
-    output: &'a [u8; 256],
-    inputs: usize,
-    allowed: &'a [u16; 16],
-    t: &'a [usize; 256],
-    a: usize,
-    want: usize,
-) -> usize
-    requires { LowestAsked next.now output.now inputs allowed.now t.now a want }
-    ensures { LowestOf (EdgeTo next.now output.now inputs allowed.now t.now (a / 16) (a % 16) want) (result / 16) (result % 16) × (result < 256) }
+pub fn lowest(c: &Coder, allowed: &[u16; 16], t: &[usize; 256], a: usize, want: usize) -> usize
+    requires { LowestAsked c.now.next c.now.output c.now.inputs allowed.now t.now a want }
+    ensures { LowestOf (EdgeTo c.now.next c.now.output c.now.inputs allowed.now t.now (a / 16) (a % 16) want) (result / 16) (result % 16) × (result < 256) }
 {
-    let mut k = 0;
-    while k < 256 {
-        if edge_to(next, output, inputs, allowed, t, a, want, k) {
+    for k in 0..256 {
+        if edge_to(c, allowed, t, a, want, k) {
             return k;
         }
-        k += 1;
     }
     0
 }
@@ -75,36 +50,46 @@ pub fn after(next: &[u8; 256], a: usize, letters: usize) -> usize
 {
     let p = Coder::INPUTS * (a / Coder::STATES) + letters / Coder::INPUTS;
     let q = Coder::INPUTS * (a % Coder::STATES) + letters % Coder::INPUTS;
-    Coder::STATES * number(next[p]) + number(next[q])
+    Coder::STATES * usize::from(next[p]) + usize::from(next[q])
 }
 
-// Writes the lowest letters of a walk of n letters from the pair `from` along the costs of the table, from `place` on, two bytes each: with k
-// letters still to come they lead to a pair that costs k steps and `base`. Gives the pair where it ends.
-pub fn write<'a>(
-    next: &'a [u8; 256],
-    output: &'a [u8; 256],
-    inputs: usize,
-    t: &'a [usize; 256],
-    step: usize,
-    base: usize,
+// Writes the letters x, 16 i + j, at a place: two bytes.
+pub fn write_at(letters: &mut [u8], place: usize, x: usize)
+    requires { (2 * place + 1 < length letters.old) × (x < 256) }
+    ensures { letters.new ≡ with_letters letters.old place (x / 16) (x % 16) }
+{
+    letters[2 * place] = (x / Coder::INPUTS) as u8;
+    letters[2 * place + 1] = (x % Coder::INPUTS) as u8;
+}
+
+// The costs of the pairs, and those of a walk along them: `step` for each letter, and `base` at the end.
+#[derive(Clone, Copy)]
+pub struct WalkCosts<'a> {
+    pub table: &'a [usize; 256],
+    pub step: usize,
+    pub base: usize,
+}
+
+// Writes the lowest letters of a walk of n letters from the pair `from` along the costs, from `place` on, two bytes each: with k letters
+// still to come they lead to a pair that costs k steps and `base`. Gives the pair where it ends.
+pub fn write(
+    c: &Coder,
+    costs: &WalkCosts,
     from: usize,
     n: usize,
     place: usize,
     letters: &mut [u8],
 ) -> usize
-    requires { WriteAsked next.now output.now inputs t.now step base from n place letters.old }
-    ensures { WriteDone next.now output.now inputs t.now step base from n place letters.old letters.new result }
+    requires { WriteAsked c.now.next c.now.output c.now.inputs costs.now.table.now costs.now.step costs.now.base from n place letters.old }
+    ensures { WriteDone c.now.next c.now.output c.now.inputs costs.now.table.now costs.now.step costs.now.base from n place letters.old letters.new result }
 {
-    let allowed = all_letters();
+    let allowed = [65535; 16];
     let mut a = from;
-    let mut k = 0;
-    while k < n {
-        let at = 2 * (place + k);
-        k += 1;
-        let x = lowest(next, output, inputs, &allowed, t, a, step * (n - k) + base);
-        letters[at] = (x / Coder::INPUTS) as u8;
-        letters[at + 1] = (x % Coder::INPUTS) as u8;
-        a = after(next, a, x);
+    for k in 0..n {
+        let want = costs.step * (n - (k + 1)) + costs.base;
+        let x = lowest(c, &allowed, costs.table, a, want);
+        write_at(letters, place + k, x);
+        a = after(&c.next, a, x);
     }
     a
 }

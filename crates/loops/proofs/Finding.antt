@@ -18,8 +18,8 @@ use Rattle.first_pair.specs.Found.{LengthsBy}
 use Rattle.first_pair.proofs.Writing.{bytes_same}
 use Rattle.first_pair.proofs.Found.{back_cycle, back_shortest, forward_cycle, forward_shortest, found_first}
 use Rattle.letters.specs.Walk.{StatePair, StaysOutside}
-use Rattle.loops.specs.Pair.{FoundPair}
-use Rattle.loops.specs.Parts.{setting_in, CostTablesOf, ClosedAsked, ClosedWritten, BetweenFrom, BetweenWritten, LettersWritten}
+use Rattle.loops.specs.Pair.{FindAsked, FoundPair}
+use Rattle.loops.specs.Parts.{setting_in, CostTablesOf, ClosedAsked, ClosedWritten, LengthsFrom, LengthsDone, BetweenFrom, BetweenWritten, LettersWritten}
 use Rattle.loops.proofs.Keeping.{kept_then}
 
 -- the bytes past those written are as they were
@@ -27,6 +27,26 @@ kept_rest : {n m : ℕ} {before after : List ℕ} → 2 * n ≡ m → StaysOutsi
 kept_rest {n} {m} {before} {after} e k =
     ext_get_or 0 (drop m after) (drop m before) (length-drop m after ∙ rw k.size (sym (length-drop m before)))
     (λ j l. get_or-drop m after j 0 ∙ k.later (m + j) (omega arith) ∙ sym (get_or-drop m before j 0))
+
+-- what starts and lengths are found from, and the letters
+pub lengths_from :
+    {c : Coder} {starts : ℕ} {conflicts before loops tails heads : List ℕ} → FindAsked c starts conflicts before →
+    CostTablesOf c conflicts loops tails heads → LengthsFrom c starts conflicts loops heads
+lengths_from {starts = starts} p t =
+    record {
+      sound = p.sound;
+      loops_table = t.loops_table;
+      heads_table = t.heads_table;
+      loops_are = t.loops_are;
+      heads_are = t.heads_are starts;
+      some = p.some;
+    }
+
+pub between_from :
+    {c : Coder} {starts : ℕ} {conflicts before loops tails heads : List ℕ} {r : LoopedPair} → FindAsked c starts conflicts before →
+    CostTablesOf c conflicts loops tails heads → LengthsDone c.states starts loops heads r →
+    BetweenFrom c starts conflicts loops tails heads r
+between_from p t l = record { sound = p.sound; tables = t; found = l _ _ refl (lengths_from p t) }
 
 module _ {c : Coder} {starts : ℕ} {conflicts loops tails heads : List ℕ} {p : LoopedPair}
     (from : BetweenFrom c starts conflicts loops tails heads p) where

@@ -9,9 +9,9 @@ use Rattle.coder.proofs.Tables.{next_high}
 use Rattle.first_pair.specs.Reach.{ConflictInto}
 use Rattle.first_pair.specs.Lowest.{LowestOf}
 use Rattle.first_pair.specs.Cost.{entry}
-use Rattle.letters.specs.Walk.{EdgeTo, LowestAsked, AfterLetters}
+use Rattle.letters.specs.Walk.{EdgeTo, LowestAsked, AfterLetters, with_letters}
 use Rattle.letters.proofs.Edges.{edge_into, into_edge}
-use Rattle.letters.proofs.Steps.{with_letters, with_first, with_second, kept_none, kept_more, after_pair}
+use Rattle.letters.proofs.Steps.{with_first, with_second, kept_none, kept_more, after_pair}
 use Rattle.loops.specs.Parts.{setting_in, MarkAsked, MarkWritten}
 use Rattle.loops.proofs.ClosedParts.{own_arrays}
 

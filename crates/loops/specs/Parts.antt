@@ -8,7 +8,7 @@ use Rattle.values.specs.Pair.{pair_of}
 use Rattle.values.specs.declared.LoopedPair.{LoopedPair}
 use Rattle.first_pair.specs.Reach.{Reach, At, Cycle, ConflictInto}
 use Rattle.first_pair.specs.Lowest.{LowestOf, Lowest, bytes_at}
-use Rattle.first_pair.specs.Cost.{CostTable, Only, Looped, Tail, Head, LeastCosts, CostOf, entry, letter_cost, in_cost, out_cost, tail_cost, too_long}
+use Rattle.first_pair.specs.Cost.{CostTable, Looped, Tail, Head, LeastCosts, CostOf, entry, letter_cost, in_cost, out_cost, tail_cost, too_long}
 use Rattle.first_pair.specs.Successors.{SuccessorsOf}
 use Rattle.first_pair.specs.Found.{LengthsBy, LettersBy}
 use Rattle.letters.specs.Walk.{StatePair, StaysOutside}
@@ -27,10 +27,6 @@ pub record CostTablesOf (c : Coder) (conflicts loops tails heads : List ℕ) : T
   pub loops_are : LeastCosts c.states (Looped (machine_of_coder c)) loops
   pub tails_are : LeastCosts c.states (Tail (machine_of_coder c)) tails
   pub heads_are : (starts : ℕ) → LeastCosts c.states (Head (setting_in c starts conflicts)) heads
-
--- no letters to the pair a, and no others: a table to begin from
-abbrev pub OnlyAt : ℕ → List ℕ → Type 0
-OnlyAt a r = (n : ℕ) → n ≤ 16 → LeastCosts n (Only (At (a / 16) (a % 16))) r
 
 -- ---- starts and lengths
 

@@ -10,6 +10,7 @@ use text::inner::word_number;
 use values::LoopedPair;
 
 // Two numbers, with a space in front of each.
+#[tactic(auto, using(crate::proofs::Spaced::two_length))]
 fn two(out: &mut [u8], at: usize, x: usize, y: usize) -> usize
     requires { at + length (spaced (x ∷ y ∷ [])) ≤ length out.old }
     ensures { Placed out.old at (spaced (x ∷ y ∷ [])) out.new result }
@@ -36,17 +37,17 @@ fn letters_line(out: &mut [u8], at: usize, letters: &[u8], n: usize) -> usize
     ensures { Placed out.old at (letters_line (take (2 * n) letters.now)) out.new result }
 {
     let mut next = put(out, at, b"letters");
-    let mut i = 0;
-    while i < n {
-        let x = letters[2 * i] as usize;
-        let y = letters[2 * i + 1] as usize;
+    let (pairs, _) = letters[..2 * n].as_chunks::<2>();
+    for pair in pairs {
+        let x = usize::from(pair[0]);
+        let y = usize::from(pair[1]);
         next = two(out, next, x, y);
-        i += 1;
     }
     put(out, next, b"\n")
 }
 
 // All lines, on the pair whose letters lie in the buffer `letters`.
+#[tactic(auto, using(crate::proofs::Lengths::text_length))]
 pub fn no_decoder(out: &mut [u8], at: usize, p: LoopedPair, letters: &[u8]) -> usize
     requires { PairAsked (pair_of p letters.now) at out.old }
     ensures { Placed out.old at (pair_text (pair_of p letters.now)) out.new result }

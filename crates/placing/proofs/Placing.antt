@@ -1,11 +1,10 @@
 -- Laws of bytes that are written into a buffer.
-use mathlib.Core.Path.{◌≡◌, refl, ap, ◌∙◌}
+use mathlib.Core.Path.{◌≡◌, refl, sym, ap, ◌∙◌}
 use mathlib.Core.List.{List, [], ◌∷◌, ◌++◌, append_assoc}
-use Prim.Native.Nat.{ℕ, suc, ◌+◌, ◌-◌, ◌<◌, ◌≤◌}
-use native.Mathlib.Numerals.{add-one}
+use Prim.Native.Nat.{ℕ, suc, ◌+◌, ◌≤◌}
 use native.Mathlib.Omega.{arith}
-use lib.ListN.{length, get_or, take, drop, set, replicate, length-append, length-replicate, replicate-append-replicate}
-use lib.Seq.{sets, sets-eq, take_at, take-suc, take-length, length-sets, get_or-set_other}
+use lib.ListN.{length, get_or, take, drop, set, replicate, length-append, length-replicate}
+use lib.Seq.{sets, sets-eq, drop-drop, take_at, length-sets, get_or-set_other}
 use Rattle.placing.specs.Placed.{with_front, Placed}
 
 -- ---- one after the other
@@ -31,33 +30,16 @@ written_both {before} {middle} {after} {xs} ys zs a b = rw (append_assoc xs ys z
 pub written_none : (before : List ℕ) (at : ℕ) → Placed before at [] before at
 written_none before at = record { buffer = refl; end = omega arith }
 
-pub written_one :
-    {before bytes : List ℕ} {at : ℕ} (out : List ℕ) (place x next : ℕ) → Placed before at bytes out place → next ≡ place + 1 →
-    Placed before at (bytes ++ (x ∷ [])) (set out place x) next
-written_one out place x next a e = written_then a (record { buffer = refl; end = e })
-
--- one byte more of a slice
-pub slice_more :
-    {before out : List ℕ} {at place : ℕ} (bytes : List ℕ) (i next : ℕ) → i < length bytes → Placed before at (take i bytes) out place →
-    next ≡ place + 1 → Placed before at (take (i + 1) bytes) (set out place (get_or bytes i 0)) next
-slice_more {before} {out} {at} {place} bytes i next l a e = rw (add-one, take-suc bytes i 0 l) (written_one out place (get_or bytes i 0) next a e)
-
--- all of a slice
-pub slice_all :
-    {before out : List ℕ} {at place : ℕ} (bytes : List ℕ) (i : ℕ) → i ≤ length bytes → length bytes ≤ i →
-    Placed before at (take i bytes) out place → Placed before at bytes out place
-slice_all bytes i l m a = let e : i ≡ length bytes = omega arith in rw (e, take-length bytes) at a
-
--- none of one byte, one more, all
-pub fill_none : (before : List ℕ) (at byte : ℕ) → Placed before at (replicate (at - at) byte) before at
-fill_none before at byte = let e : at - at ≡ 0 = omega arith in rw e (written_none before at)
-
-pub fill_more :
-    {before out : List ℕ} {at : ℕ} (byte i : ℕ) → at ≤ i → Placed before at (replicate (i - at) byte) out i →
-    Placed before at (replicate (i + 1 - at) byte) (set out i byte) (i + 1)
-fill_more {before} {out} {at} byte i l a =
-    let e : i + 1 - at ≡ i - at + 1 = omega arith in
-    rw (e, ← replicate-append-replicate {A = ℕ} (i - at) 1 byte) (written_one out i byte (i + 1) a refl)
+-- a part of the buffer is written anew
+pub part_written :
+    {before bytes xs : List ℕ} {at k next : ℕ} → xs ≡ bytes → k ≡ length bytes → at + k ≤ length before → next ≡ at + k →
+    Placed before at bytes (take at before ++ (xs ++ drop k (drop at before))) next
+part_written {before} {bytes} {xs} {at} {k} {next} e l m n = rw (e, l) (record {
+  buffer =
+      ap (λ z. take at before ++ (bytes ++ z)) (drop-drop (length bytes) at before)
+      ∙ sym (append_assoc (take at before) bytes (drop (at + length bytes) before)) ∙ sym (sets-eq bytes before at (omega arith));
+  end = omega arith;
+})
 
 pub fill_all :
     {before out : List ℕ} {at place : ℕ} (byte n m : ℕ) → n ≡ m → Placed before at (replicate n byte) out place →

@@ -1,5 +1,6 @@
 -- From the first round to the last: what the rounds start from, from one round to the next, and the depths at their end.
-use mathlib.Core.Path.{◌≡◌, refl, ◌∙◌}
+use mathlib.Core.Path.{◌≡◌}
+use mathlib.Core.Bool.{Bool, true}
 use mathlib.Core.List.{List, []}
 use mathlib.Core.Logic.Dec
 use Prim.Native.Nat.{ℕ, suc, ◌+◌, ◌*◌, ◌/◌, ◌%◌, ◌^◌, ◌≤◌, ◌<◌}
@@ -22,7 +23,8 @@ use Rattle.chains.proofs.Chains.{last_above}
 use Rattle.chains.proofs.Entries.{has_key_lem}
 use Rattle.product.specs.Depth.{at, endless, Depth, Depths}
 use Rattle.product.specs.Entries.{sources, near_ends, far_ends, ArraysOf}
-use Rattle.product.specs.Rounds.{Seeking, RightTo, StartIn, CoderLevel, edge_at, Before, After, Some, Started, FirstEdges}
+use Rattle.product.specs.declared.inner.Edge.{Edge}
+use Rattle.product.specs.Rounds.{Seeking, RightTo, StartIn, CoderLevel, edge_at, Before, After, Some, Rounded, RoundDone, Started, FirstEdges}
 use Rattle.product.proofs.Entries.{source_at, entry_below}
 use Rattle.coder.proofs.Tables.{next_high}
 use Rattle.product.proofs.Seeking.{chain_last, last_is}
@@ -48,9 +50,17 @@ near_keys c s back = record {
 near_keys c s forward = record { states = s.states_high; inputs = s.inputs_high; below = source_high }
 
 pub arrays_of :
-    (c : Coder) (d : Direction) → Sound c → (chain : Chain) (near' far' : List ℕ) → near' ≡ near_ends d c → far' ≡ far_ends d c →
-    Chained near' c.states c.inputs chain → ArraysOf c d chain.last chain.previous c.output far'
-arrays_of c d s chain near' far' n f h = record { sound = s; output_is = refl; far_is = f; chained = rw n at h }
+    (c : Coder) (d : Direction) → Sound c → {chain : Chain} {near' far' : List ℕ} → near' ≡ near_ends d c → far' ≡ far_ends d c →
+    Chained near' c.states c.inputs chain → ArraysOf c d chain far'
+arrays_of c d s n f h = record { sound = s; far_is = f; chained = rw n at h }
+
+-- a round on the arrays of the direction w
+pub round_along :
+    {c : Coder} {starts k : ℕ} {chain : Chain} {near' far' : List ℕ} {square square' : List (List ℕ)} {edges edges' : List (List Edge)}
+    {b : Bool} → Sound c → Chained near' c.states c.inputs chain → RoundDone c chain far' k square edges square' edges' b →
+    ((w : Direction) → near' ≡ near_ends w c → far' ≡ far_ends w c → Before c w starts k square edges) →
+    (w : Direction) → near' ≡ near_ends w c → far' ≡ far_ends w c → Rounded c w starts k square' edges' b
+round_along {c} s h r before w n f = r w _ (arrays_of c w s n f h) (before w n f)
 
 module _ (c : Coder) (d : Direction) (starts : ℕ) (sound : Sound c) where
   abbrev S : Setting
@@ -84,14 +94,12 @@ module _ (c : Coder) (d : Direction) (starts : ℕ) (sound : Sound c) where
       })
     ]
 
-    module _ {last previous output far' xs ys : List ℕ} (arrays : ArraysOf c d last previous output far')
-        (f : FirstEdges last c.states xs ys) where
-      seeking_start : (u v : ℕ) → u < c.states → v < 16 → Seeking c d (L 0) u v (edge_at xs ys u v).x (edge_at xs ys u v).y
+    module _ {chain : Chain} {far' : List ℕ} {edges : List (List Edge)} (arrays : ArraysOf c d chain far')
+        (f : FirstEdges chain.last c.states edges) where
+      seeking_start : (u v : ℕ) → u < c.states → v < 16 → Seeking c d (L 0) u v (edge_at edges u v).x (edge_at edges u v).y
       seeking_start u v l m =
           let n = sound.states_high in
-          let first = f.first u v l m ∙ last_is c d sound arrays u (omega arith) in
-          let second = f.second u v l m ∙ last_is c d sound arrays v (omega arith) in
-          rw (first, second)
+          rw (f.first u v l m, last_is c d sound arrays u (omega arith), last_is c d sound arrays v (omega arith))
           record {
             column = m;
             on₁ = chain_last c d sound u 256 (omega arith);
@@ -102,7 +110,7 @@ module _ (c : Coder) (d : Direction) (starts : ℕ) (sound : Sound c) where
             };
           }
 
-      pub before_start : Before c d starts 0 square xs ys
+      pub before_start : Before c d starts 0 square edges
       before_start = record {
         shape = h.shape;
         kept = f.kept;
@@ -113,8 +121,8 @@ module _ (c : Coder) (d : Direction) (starts : ℕ) (sound : Sound c) where
   -- ---- from one round to the next
 
   pub before_next :
-      {k : ℕ} {square : List (List ℕ)} {xs ys : List ℕ} → suc k < endless → After c d starts k square xs ys →
-      Before c d starts (k + 1) square xs ys
+      {k : ℕ} {square : List (List ℕ)} {edges : List (List Edge)} → suc k < endless → After c d starts k square edges →
+      Before c d starts (k + 1) square edges
   before_next {k} low r =
       rw (add-one k)
       record {
@@ -126,23 +134,26 @@ module _ (c : Coder) (d : Direction) (starts : ℕ) (sound : Sound c) where
 
   -- a round that changed something was not past N (N + 1) / 2
   pub changed_low :
-      {k : ℕ} {square : List (List ℕ)} {xs ys : List ℕ} → After c d starts k square xs ys → Some square (suc k) →
-      k < pairs c.states
-  changed_low {k} r s =
-      let h = r.right s.u s.v s.row s.column in
-      let e = s.is in
-      elim (dec_lt k (pairs c.states)) [
-        | yes l ↦ l
-        | no l ↦ absurd (omega (
-          arith,
-          h.below (suc k) (omega arith)
-              (settled_by S start_decided start_bounded d k (omega arith) s.u s.v (h.stands k (omega arith) (omega arith))),
-        ))
-      ]
+      {k : ℕ} {square : List (List ℕ)} {edges : List (List Edge)} {b : Bool} → Rounded c d starts k square edges b → b ≡ true →
+      (k < pairs c.states) × (pairs c.states ≤ max_side)
+  changed_low {k} {square} r e =
+      let s = r.changed.yes' e in
+      let h = r.after.right s.u s.v s.row s.column in
+      let i = s.is in (
+        elim (dec_lt k (pairs c.states)) [
+          | yes l ↦ l
+          | no l ↦ absurd (omega (
+            arith,
+            h.below (suc k) (omega arith)
+                (settled_by S start_decided start_bounded d k (omega arith) s.u s.v (h.stands k (omega arith) (omega arith))),
+          ))
+        ],
+        pairs_high c.states sound.states_high,
+      )
 
   -- ---- the last round
 
-  module _ {k : ℕ} {square : List (List ℕ)} {xs ys : List ℕ} (low : k ≤ pairs c.states) (r : After c d starts k square xs ys)
+  module _ {k : ℕ} {square : List (List ℕ)} {edges : List (List Edge)} (low : k ≤ pairs c.states) (r : After c d starts k square edges)
       (none : Some square (suc k) → ⊥) where
     k_high : k ≤ max_side
     k_high = omega (arith, pairs_high c.states sound.states_high)

@@ -2,12 +2,10 @@
 use mathlib.Core.Path.{◌≡◌, refl, sym, ◌∙◌, subst}
 use mathlib.Core.Bool.{Bool, true, false}
 use mathlib.Core.List.{List, []}
-use Prim.Native.Nat.{ℕ, suc, ◌+◌, ◌-◌, ◌*◌, ◌/◌, ◌%◌, ◌≤◌, ◌<◌}
+use Prim.Native.Nat.{ℕ, suc, ◌+◌, ◌*◌, ◌%◌, ◌≤◌, ◌<◌}
 use native.Mathlib.Numerals.{add-one}
 use native.Mathlib.Omega.{arith}
 use native.Mathlib.Decide.{dec_lt, ℕ_discrete}
-use lib.ListN.{get_or, set, length-set}
-use lib.Seq.{get_or-set_same, get_or-set_other}
 use Rattle.mealy.specs.Setting.{Setting, worded}
 use Rattle.mealy.specs.Product.{Direction}
 use Rattle.mealy.proofs.Levels.{level_start, level_fall}
@@ -16,7 +14,7 @@ use Rattle.coder.specs.declared.inner.tables.Coder.{Coder}
 use Rattle.coder.proofs.Refusals.{true_false}
 use Rattle.product.specs.Depth.{at, endless, Square}
 use Rattle.product.specs.Entries.{far, Joins}
-use Rattle.product.specs.Rounds.{Seeking, Sought, Above, RightTo, CoderLevel, Kept, edge_at, Before, Some, Rounded}
+use Rattle.product.specs.Rounds.{Seeking, Sought, NoEdge, Above, RightTo, CoderLevel, edge_at, Before, Some, Rounded}
 use Rattle.product.specs.declared.inner.Edge.{Edge}
 use Rattle.product.proofs.Entries.{far_below, joins_step, step_joins}
 use Rattle.product.proofs.Squares.{put, put_same, put_other, put_square}
@@ -75,15 +73,14 @@ module _ (c : Coder) (d : Direction) (starts : ℕ) (sound : Sound c) (k : ℕ) 
       let z = level_start S d k u v h in
       (z.0, z.1, record { s = far d c p; t = far d c q; i = p % 16; j = q % 16; step = joins_step c sound d u v p q j; within = w })
 
-  -- where the search has found nothing, the pair is not in level k + 1
-  pub none_level : (u v y : ℕ) → Seeking c d (L k) u v 0 y → L (suc k) u v → ⊥
-  none_level u v y s h =
+  -- where no edge stands, the pair is not in level k + 1
+  pub none_level : (u v : ℕ) → NoEdge c d (L k) u v → L (suc k) u v → ⊥
+  none_level u v none h =
       let n = h.2 in
       let a = start_below (suc k) u v h in
       let b = start_below k n.s n.t n.within in
       let j = step_joins c sound d u v n.i n.j n.s n.t a.0 a.1 b.0 b.1 n.step in
-      let l = s.none_before.first j.p j.q j.joins (rw (j.far₁, j.far₂) n.within) in
-      omega arith
+      none j.p j.q j.joins (rw (j.far₁, j.far₂) n.within)
 
   -- ---- the search by depths and by levels
 
@@ -104,11 +101,16 @@ module _ (c : Coder) (d : Direction) (starts : ℕ) (sound : Sound c) (k : ℕ) 
       };
     }
 
+    pub none_map : NoEdge c d P u v → NoEdge c d Q u v
+    none_map none p q j w = let h = far_high p q j in none p q j (f _ _ h.0 h.1 w)
+
     pub sought_map : ((s t : ℕ) → s < 16 → t < 16 → P s t → Q s t) → {e : Edge} → Sought c d P u v e → Sought c d Q u v e
     sought_map g s = record {
       seeking = seeking_map s.seeking;
-      found = s.found;
-      edge = λ p q a b. let j = s.edge p q a b in let h = far_high p q j.0 in (j.0, g _ _ h.0 h.1 j.1);
+      first = s.first;
+      second = s.second;
+      joins = s.joins;
+      stands = let h = far_high _ _ s.joins in g _ _ h.0 h.1 s.stands;
     }
 
   -- the search has come as far with an equal edge
@@ -116,19 +118,19 @@ module _ (c : Coder) (d : Direction) (starts : ℕ) (sound : Sound c) (k : ℕ) 
       {u v : ℕ} {e e' : Edge} → e' ≡ e → Seeking c d (L k) u v e.x e.y → Seeking c d (L k) u v e'.x e'.y
   seeking_same {u} {v} p = subst (λ (g : Edge). Seeking c d (L k) u v g.x g.y) (sym p)
 
-  -- ---- the round has come to place a
+  -- ---- the round has come to place a, which is 16 u + v at the pair of u and v
 
-  pub record InRound (a : ℕ) (square : List (List ℕ)) (xs ys : List ℕ) (b : Bool) : Type 0 where
+  pub record InRound (a : ℕ) (square : List (List ℕ)) (edges : List (List Edge)) (b : Bool) : Type 0 where
     pub shape : Square square
-    pub kept : Kept xs ys
+    pub kept : Square edges
     pub done : (u v : ℕ) → u < 16 → v < 16 → 16 * u + v < a → RightTo (λ m. L m u v) (suc k) (at square u v)
     pub left : (u v : ℕ) → u < 16 → v < 16 → a ≤ 16 * u + v → RightTo (λ m. L m u v) k (at square u v)
     pub seeking :
-        (u v : ℕ) → u < 16 → v < 16 → at square u v ≡ endless → Seeking c d (L k) u v (edge_at xs ys u v).x (edge_at xs ys u v).y
+        (u v : ℕ) → u < 16 → v < 16 → at square u v ≡ endless → Seeking c d (L k) u v (edge_at edges u v).x (edge_at edges u v).y
     pub changed : b ≡ true → Some square (suc k)
     pub unchanged : b ≡ false → (u v : ℕ) → u < 16 → v < 16 → 16 * u + v < a → at square u v ≡ suc k → ⊥
 
-  pub round_start : {square : List (List ℕ)} {xs ys : List ℕ} → Before c d starts k square xs ys → InRound 0 square xs ys false
+  pub round_start : {square : List (List ℕ)} {edges : List (List Edge)} → Before c d starts k square edges → InRound 0 square edges false
   round_start b = record {
     shape = b.shape;
     kept = b.kept;
@@ -139,142 +141,130 @@ module _ (c : Coder) (d : Direction) (starts : ℕ) (sound : Sound c) (k : ℕ) 
     unchanged = λ e u v l m n. absurd (omega arith);
   }
 
-  -- what is known of the pair at place a after it was seen to
-  record Seen (u v : ℕ) (square : List (List ℕ)) (xs ys : List ℕ) (b b' : Bool) : Type 0 where
+  -- the same place, said otherwise
+  pub round_at :
+      {a a' : ℕ} {square : List (List ℕ)} {edges : List (List Edge)} {b : Bool} → a ≡ a' → InRound a square edges b →
+      InRound a' square edges b
+  round_at {a} {a'} {square} {edges} {b} e = subst (λ x. InRound x square edges b) e
+
+  -- what is known of the pair at u and v after it was seen to
+  record Seen (u v : ℕ) (square : List (List ℕ)) (edges : List (List Edge)) (b b' : Bool) : Type 0 where
     right : RightTo (λ m. L m u v) (suc k) (at square u v)
-    seeking : at square u v ≡ endless → Seeking c d (L k) u v (edge_at xs ys u v).x (edge_at xs ys u v).y
+    seeking : at square u v ≡ endless → Seeking c d (L k) u v (edge_at edges u v).x (edge_at edges u v).y
     changed : b' ≡ true → Some square (suc k)
     unchanged : b' ≡ false → (b ≡ false) × (at square u v ≡ suc k → ⊥)
 
   -- one place more; the other places stay
-  module _ {a : ℕ} {square square' : List (List ℕ)} {xs ys xs' ys' : List ℕ} {b b' : Bool} (r : InRound a square xs ys b)
-      (shape : Square square') (kept : Kept xs' ys')
-      (other : (s t : ℕ) → s < 16 → t < 16 → (16 * s + t ≡ a → ⊥) → at square' s t ≡ at square s t)
-      (edges : (s t : ℕ) → (16 * s + t ≡ a → ⊥) → edge_at xs' ys' s t ≡ edge_at xs ys s t)
-      (seen : Seen (a / 16) (a % 16) square' xs' ys' b b') where
-    row : (s t : ℕ) → t < 16 → 16 * s + t ≡ a → (s ≡ a / 16) × (t ≡ a % 16)
-    row s t l e = omega arith
+  module _ {u v : ℕ} {square square' : List (List ℕ)} {edges edges' : List (List Edge)} {b b' : Bool}
+      (r : InRound (16 * u + v) square edges b) (column : v < 16)
+      (shape : Square square') (kept : Square edges')
+      (other : (s t : ℕ) → s < 16 → t < 16 → (s ≡ u → t ≡ v → ⊥) → at square' s t ≡ at square s t)
+      (edges_other : (s t : ℕ) → (s ≡ u → t ≡ v → ⊥) → edge_at edges' s t ≡ edge_at edges s t)
+      (seen : Seen u v square' edges' b b') where
+    row : (s t : ℕ) → t < 16 → 16 * s + t ≡ 16 * u + v → (s ≡ u) × (t ≡ v)
+    row s t l e = (omega arith, omega arith)
 
-    round_place : InRound (a + 1) square' xs' ys' b'
+    apart : (s t : ℕ) → (16 * s + t ≡ 16 * u + v → ⊥) → s ≡ u → t ≡ v → ⊥
+    apart s t n e f = n (omega arith)
+
+    round_place : InRound (16 * u + (v + 1)) square' edges' b'
     round_place = record {
       shape = shape;
       kept = kept;
-      done = λ s t l m n. elim (ℕ_discrete (16 * s + t) a) [
+      done = λ s t l m n. elim (ℕ_discrete (16 * s + t) (16 * u + v)) [
         | yes e ↦ let z = row s t m e in rw (z.0, z.1) seen.right
-        | no e ↦ rw (other s t l m e) (r.done s t l m (omega arith))
+        | no e ↦ rw (other s t l m (apart s t e)) (r.done s t l m (omega arith))
       ];
-      left = λ s t l m n. rw (other s t l m (λ e. omega arith)) (r.left s t l m (omega arith));
-      seeking = λ s t l m f. elim (ℕ_discrete (16 * s + t) a) [
+      left = λ s t l m n. rw (other s t l m (λ e f. omega arith)) (r.left s t l m (omega arith));
+      seeking = λ s t l m f. elim (ℕ_discrete (16 * s + t) (16 * u + v)) [
         | yes e ↦ let z = row s t m e in rw (z.0, z.1) (seen.seeking (rw (z.0, z.1) at f))
-        | no e ↦ seeking_same (edges s t e) (r.seeking s t l m (sym (other s t l m e) ∙ f))
+        | no e ↦ seeking_same (edges_other s t (apart s t e)) (r.seeking s t l m (sym (other s t l m (apart s t e)) ∙ f))
       ];
       changed = seen.changed;
-      unchanged = λ g s t l m n f. let h = seen.unchanged g in elim (ℕ_discrete (16 * s + t) a) [
+      unchanged = λ g s t l m n f. let h = seen.unchanged g in elim (ℕ_discrete (16 * s + t) (16 * u + v)) [
         | yes e ↦ let z = row s t m e in h.1 (rw (z.0, z.1) at f)
-        | no e ↦ r.unchanged h.0 s t l m (omega arith) (sym (other s t l m e) ∙ f)
+        | no e ↦ r.unchanged h.0 s t l m (omega arith) (sym (other s t l m (apart s t e)) ∙ f)
       ];
     }
 
-  -- ---- the pair at place a: it has fallen before, it stands, or it falls
+  -- ---- the pair at u and v: it has fallen before, it stands, or it falls
 
-  module _ {a : ℕ} {square : List (List ℕ)} {xs ys : List ℕ} {b : Bool} (r : InRound a square xs ys b) (inside : a < 256) where
+  module _ {u v : ℕ} {square : List (List ℕ)} {edges : List (List Edge)} {b : Bool} (r : InRound (16 * u + v) square edges b)
+      (inside : u < 16) (column : v < 16) where
     abbrev here : ℕ → Type 0
-    here m = L m (a / 16) (a % 16)
+    here m = L m u v
 
-    right_here : RightTo here k (at square (a / 16) (a % 16))
-    right_here = r.left (a / 16) (a % 16) (omega arith) (omega arith) (omega arith)
+    right_here : RightTo here k (at square u v)
+    right_here = r.left u v inside column (omega arith)
 
     -- standing at level k, by depth and by level set
     pub above_level : (s t : ℕ) → s < 16 → t < 16 → Above square k s t → L k s t
-    above_level s t l m n = elim (dec_lt (16 * s + t) a) [
+    above_level s t l m n = elim (dec_lt (16 * s + t) (16 * u + v)) [
       | yes e ↦ (r.done s t l m e).stands k (omega arith) n
       | no e ↦ (r.left s t l m (omega arith)).stands k (omega arith) n
     ]
 
     pub level_above : (s t : ℕ) → s < 16 → t < 16 → L k s t → Above square k s t
-    level_above s t l m n = elim (dec_lt (16 * s + t) a) [
+    level_above s t l m n = elim (dec_lt (16 * s + t) (16 * u + v)) [
       | yes e ↦ (r.done s t l m e).below k (omega arith) n
       | no e ↦ (r.left s t l m (omega arith)).below k (omega arith) n
     ]
 
-    pub round_fallen : (at square (a / 16) (a % 16) ≡ endless → ⊥) → InRound (a + 1) square xs ys b
+    pub round_fallen : (at square u v ≡ endless → ⊥) → InRound (16 * u + (v + 1)) square edges b
     round_fallen f =
         let h = right_here.high in
         let g = right_here.shape (omega arith) in
-        round_place r r.shape r.kept (λ s t l m e. refl) (λ s t e. refl) (record {
-          right = right_fallen here (λ m. level_fall S d m (a / 16) (a % 16)) right_here (omega arith);
+        round_place r column r.shape r.kept (λ s t l m e. refl) (λ s t e. refl) (record {
+          right = right_fallen here (λ m. level_fall S d m u v) right_here (omega arith);
           seeking = λ e. absurd (f e);
           changed = r.changed;
           unchanged = λ e. (e, λ z. omega arith);
         })
 
-    module _ (stands : at square (a / 16) (a % 16) ≡ endless) where
-      pub seeking_here : {x y : ℕ} → x ≡ get_or xs a 0 → y ≡ get_or ys a 0 → Seeking c d (Above square k) (a / 16) (a % 16) x y
-      seeking_here p q =
-          let e : 16 * (a / 16) + a % 16 ≡ a = omega arith in
-          rw (p, q) (seeking_map above_level (rw e at (r.seeking (a / 16) (a % 16) (omega arith) (omega arith) stands)))
+    module _ (stands : at square u v ≡ endless) where
+      pub seeking_here : {e : Edge} → e ≡ edge_at edges u v → Seeking c d (Above square k) u v e.x e.y
+      seeking_here {e} p =
+          subst (λ (g : Edge). Seeking c d (Above square k) u v g.x g.y) (sym p) (seeking_map above_level (r.seeking u v inside column stands))
 
-      module _ {x y : ℕ} (found : Sought c d (Above square k) (a / 16) (a % 16) (record { x = x; y = y })) where
-        abbrev xs' : List ℕ
-        xs' = set xs a x
+      level_here : L k u v
+      level_here = right_here.stands k (omega arith) (omega arith)
 
-        abbrev ys' : List ℕ
-        ys' = set ys a y
+      -- an edge stands: it is kept
+      pub round_stands : {e : Edge} → Sought c d (Above square k) u v e → InRound (16 * u + (v + 1)) square (put edges u v e) b
+      round_stands {e} found =
+          let s = sought_map level_above above_level found in
+          round_place r column r.shape (put_square r.kept u v e inside column) (λ s t l m e. refl)
+          (put_other r.kept u v e inside column _) (record {
+            right =
+                right_stands here (λ m. level_fall S d m u v) right_here low stands
+                (edge_level u v _ _ level_here s.joins s.stands);
+            seeking = λ _. seeking_same (put_same r.kept u v e inside column _) s.seeking;
+            changed = r.changed;
+            unchanged = λ f. (f, λ z. omega arith);
+          })
 
-        kept' : Kept xs' ys'
-        kept' = record { firsts = length-set xs a x ∙ r.kept.firsts; seconds = length-set ys a y ∙ r.kept.seconds }
-
-        edge_here : edge_at xs' ys' (a / 16) (a % 16) ≡ record { x = x; y = y }
-        edge_here =
-            let e : 16 * (a / 16) + a % 16 ≡ a = omega arith in
-            let p : get_or xs' a 0 ≡ x = get_or-set_same xs a x 0 (omega (arith, r.kept.firsts)) in
-            let q : get_or ys' a 0 ≡ y = get_or-set_same ys a y 0 (omega (arith, r.kept.seconds)) in
-            rw e (λ i. record { x = p i; y = q i })
-
-        edge_other : (s t : ℕ) → (16 * s + t ≡ a → ⊥) → edge_at xs' ys' s t ≡ edge_at xs ys s t
-        edge_other s t f = λ i. record { x = get_or-set_other xs a (16 * s + t) x 0 f i; y = get_or-set_other ys a (16 * s + t) y 0 f i }
-
-        sought_here : Sought c d (L k) (a / 16) (a % 16) (record { x = x; y = y })
-        sought_here = sought_map level_above above_level found
-
-        level_here : L k (a / 16) (a % 16)
-        level_here = right_here.stands k (omega arith) (omega arith)
-
-        pub round_stands : 0 < x → InRound (a + 1) square xs' ys' b
-        round_stands l =
-            let y_some = found.found l in
-            let h = sought_here.edge (x - 1) (y - 1) (omega arith) (omega arith) in
-            round_place r r.shape kept' (λ s t l m e. refl) edge_other (record {
-              right =
-                  right_stands here (λ m. level_fall S d m (a / 16) (a % 16)) right_here low stands
-                  (edge_level (a / 16) (a % 16) (x - 1) (y - 1) level_here h.0 h.1);
-              seeking = λ e. seeking_same edge_here sought_here.seeking;
-              changed = r.changed;
-              unchanged = λ e. (e, λ z. omega arith);
-            })
-
-        pub round_falls : x ≡ 0 → InRound (a + 1) (put square (a / 16) (a % 16) (k + 1)) xs' ys' true
-        round_falls z =
-            let same : at (put square (a / 16) (a % 16) (k + 1)) (a / 16) (a % 16) ≡ suc k =
-            put_same r.shape (a / 16) (a % 16) (k + 1) (omega arith) (omega arith) ∙ add-one k in
-            round_place r (put_square r.shape (a / 16) (a % 16) (k + 1) (omega arith) (omega arith)) kept'
-            (λ s t l m e. put_other r.shape (a / 16) (a % 16) (k + 1) (omega arith) (omega arith) s t (λ f g. e (omega arith)))
-            edge_other (record {
-              right =
-                  rw same
-                  (right_falls here (λ m. level_fall S d m (a / 16) (a % 16)) right_here low stands
-                  (none_level (a / 16) (a % 16) y (rw z at sought_here.seeking)));
-              seeking = λ e. absurd (omega arith);
-              changed = λ e. record { u = a / 16; v = a % 16; row = omega arith; column = omega arith; is = same };
-              unchanged = λ e. absurd (true_false refl e);
-            })
+      -- none does: the pair falls
+      pub round_falls : NoEdge c d (Above square k) u v → InRound (16 * u + (v + 1)) (put square u v (k + 1)) edges true
+      round_falls none =
+          let same : at (put square u v (k + 1)) u v ≡ suc k = put_same r.shape u v (k + 1) inside column 0 ∙ add-one k in
+          round_place r column (put_square r.shape u v (k + 1) inside column) r.kept
+          (λ s t l m e. put_other r.shape u v (k + 1) inside column 0 s t e)
+          (λ s t e. refl) (record {
+            right =
+                rw same
+                (right_falls here (λ m. level_fall S d m u v) right_here low stands
+                (none_level u v (none_map level_above none)));
+            seeking = λ e. absurd (omega arith);
+            changed = λ e. record { u = u; v = v; row = inside; column = column; is = same };
+            unchanged = λ e. absurd (true_false refl e);
+          })
 
   -- ---- the end of the round: from the row of N on nothing stands
 
   pub round_end :
-      {a : ℕ} {square : List (List ℕ)} {xs ys : List ℕ} {b : Bool} → InRound a square xs ys b → a ≡ 16 * c.states →
-      Rounded c d starts k square xs ys b
-  round_end {a} {square} {xs} {ys} {b} r e = record {
+      {a : ℕ} {square : List (List ℕ)} {edges : List (List Edge)} {b : Bool} → InRound a square edges b → a ≡ 16 * c.states →
+      Rounded c d starts k square edges b
+  round_end {a} {square} {edges} {b} r e = record {
     after = record {
       shape = r.shape;
       kept = r.kept;

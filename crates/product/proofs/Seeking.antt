@@ -1,5 +1,5 @@
 -- The search for an edge of a pair whose far ends stand, from one edge to the next.
-use mathlib.Core.Path.{◌≡◌, refl, sym, ap, ◌∙◌}
+use mathlib.Core.Path.{◌≡◌, ap, ◌∙◌}
 use mathlib.Core.Bool.{Bool, true, false, ◌&&◌}
 use mathlib.Core.List.{List}
 use Prim.Native.Nat.{ℕ, suc, ◌-◌, ◌≤◌, ◌<◌}
@@ -13,13 +13,13 @@ use Rattle.coder.proofs.Refusals.{both_true}
 use Rattle.coder.specs.Table.{Sound}
 use Rattle.coder.specs.declared.inner.tables.Coder.{Coder}
 use Rattle.chains.specs.Chain.{has_key, last_below}
+use Rattle.chains.specs.declared.inner.Chain.{Chain}
 use Rattle.coder.proofs.Refusals.{true_false}
 use Rattle.chains.proofs.Chains.{last_bound, last_passes, last_above}
 use Rattle.chains.proofs.Entries.{has_key_lem, key_entry}
 use Rattle.product.specs.Entries.{near_ends, far, Joins, ArraysOf}
 use Rattle.product.specs.Depth.{at}
-use Rattle.product.specs.Rounds.{OnChain, Above, Seeking, Sought}
-use Rattle.product.specs.declared.inner.Edge.{Edge}
+use Rattle.product.specs.Rounds.{OnChain, Above, Seeking, Sought, NoEdge}
 use Rattle.product.proofs.Entries.{entry_below, far_below}
 
 module _ (c : Coder) (d : Direction) (sound : Sound c) where
@@ -33,12 +33,12 @@ module _ (c : Coder) (d : Direction) (sound : Sound c) where
     entry = λ q e. last_passes (Key u) p q e;
   }
 
-  module _ {last previous output far' : List ℕ} (arrays : ArraysOf c d last previous output far') where
+  module _ {chain : Chain} {far' : List ℕ} (arrays : ArraysOf c d chain far') where
     -- the array `last` at a near end, and `previous` at an entry
-    pub last_is : (u : ℕ) → u < 64 → get_or last u 0 ≡ last_below (Key u) 256
+    pub last_is : (u : ℕ) → u < 64 → get_or chain.last u 0 ≡ last_below (Key u) 256
     last_is u l = arrays.chained.last u l
 
-    pub previous_is : (u p : ℕ) → Key u p ≡ true → get_or previous p 0 ≡ last_below (Key u) p
+    pub previous_is : (u p : ℕ) → Key u p ≡ true → get_or chain.previous p 0 ≡ last_below (Key u) p
     previous_is u p e =
         let k = key_entry _ _ _ u p e in
         arrays.chained.previous p (entry_below c sound p k.0) k.0 ∙ ap (λ w. last_below (Key w) p) k.1
@@ -93,92 +93,73 @@ module _ (c : Coder) (d : Direction) (sound : Sound c) where
         record { entry₁ = a.0; entry₂ = b.0; near₁ = a.1; near₂ = b.1; output = o }
 
     -- nothing is left
-    pub seek_none : x ≡ 0 → Sought c d P u v (record { x = 0; y = 0 })
-    seek_none e = record {
-      seeking = record {
-        column = k.column;
-        on₁ = record { high = omega arith; entry = λ p f. absurd (omega arith) };
-        on₂ = record { high = omega arith; entry = λ p f. absurd (omega arith) };
-        none_before = record {
-          first = λ a b j s. omega (arith, k.none_before.first a b j s);
-          second = λ a b j s g. absurd (omega arith);
-        };
-      };
-      found = λ l. absurd (omega arith);
-      edge = λ p q f g. absurd (omega arith);
-    }
-
-    pub seek_found :
-        (e : Edge) → e.x ≡ x → e.y ≡ y → 0 < y →
-        ((p q : ℕ) → x ≡ suc p → y ≡ suc q → Joins c d u v p q × P (far d c p) (far d c q)) → Sought c d P u v e
-    seek_found e f g l h = record {
-      seeking = rw (f, g) k;
-      found = λ m. omega arith;
-      edge = λ p q i j. h p q (sym f ∙ i) (sym g ∙ j);
-    }
+    pub seek_none : x ≡ 0 → NoEdge c d P u v
+    seek_none e p q j s = omega (arith, k.none_before.first p q j s)
 
 -- ---- the same on the arrays
 
-module _ {c : Coder} {d : Direction} {last previous output far' : List ℕ} (arrays : ArraysOf c d last previous output far')
+module _ {c : Coder} {d : Direction} {chain : Chain} {far' : List ℕ} (arrays : ArraysOf c d chain far')
     {P : ℕ → ℕ → Type 0} {u v x y : ℕ} (k : Seeking c d P u v x y) where
-  next_first : {x' : ℕ} → 0 < x → x' ≡ get_or previous (x - 1) 0 → x' ≡ last_below (Key c d arrays.sound u) (x - 1)
-  next_first l e = e ∙ previous_is c d arrays.sound arrays u (x - 1) (k.on₁.entry (x - 1) (omega arith))
+  next_first : {p : ℕ} → 0 < x → p ≡ x - 1 → get_or chain.previous p 0 ≡ last_below (Key c d arrays.sound u) p
+  next_first {p} l e = previous_is c d arrays.sound arrays u p (k.on₁.entry p (omega arith))
 
-  next_second : {y' : ℕ} → 0 < y → y' ≡ get_or previous (y - 1) 0 → y' ≡ last_below (Key c d arrays.sound v) (y - 1)
-  next_second l e = e ∙ previous_is c d arrays.sound arrays v (y - 1) (k.on₂.entry (y - 1) (omega arith))
+  next_second : {q : ℕ} → 0 < y → q ≡ y - 1 → get_or chain.previous q 0 ≡ last_below (Key c d arrays.sound v) q
+  next_second {q} l e = previous_is c d arrays.sound arrays v q (k.on₂.entry q (omega arith))
 
-  pub first_less : {x' : ℕ} → 0 < x → x' ≡ get_or previous (x - 1) 0 → x' < x
-  first_less l e = omega (arith, next_first l e, last_bound (Key c d arrays.sound u) (x - 1))
+  pub first_less : {p : ℕ} → 0 < x → p ≡ x - 1 → get_or chain.previous p 0 < x
+  first_less {p} l e = omega (arith, next_first l e, last_bound (Key c d arrays.sound u) p)
 
-  pub second_less : {y' : ℕ} → 0 < y → y' ≡ get_or previous (y - 1) 0 → y' < y
-  second_less l e = omega (arith, next_second l e, last_bound (Key c d arrays.sound v) (y - 1))
+  pub second_less : {q : ℕ} → 0 < y → q ≡ y - 1 → get_or chain.previous q 0 < y
+  second_less {q} l e = omega (arith, next_second l e, last_bound (Key c d arrays.sound v) q)
 
-  pub last_high : {y' : ℕ} → y' ≡ get_or last v 0 → y' ≤ 256
-  last_high e =
+  pub last_high : get_or chain.last v 0 ≤ 256
+  last_high =
       let l = k.column in
-      omega (arith, e, last_is c d arrays.sound arrays v (omega arith), last_bound (Key c d arrays.sound v) 256)
+      omega (arith, last_is c d arrays.sound arrays v (omega arith), last_bound (Key c d arrays.sound v) 256)
 
-  pub row_step : {x' y' : ℕ} → 0 < x → y ≡ 0 → x' ≡ get_or previous (x - 1) 0 → y' ≡ get_or last v 0 → Seeking c d P u v x' y'
-  row_step l z e f =
+  pub row_step :
+      {p : ℕ} → 0 < x → y ≡ 0 → p ≡ x - 1 → Seeking c d P u v (get_or chain.previous p 0) (get_or chain.last v 0)
+  row_step {p} l z e =
       let m = k.column in
-      rw (next_first l e, f ∙ last_is c d arrays.sound arrays v (omega arith))
-      (seek_row c d arrays.sound P k (x - 1) (omega arith) z)
-
-  pub edge_step :
-      {y' : ℕ} → 0 < x → 0 < y → (Joins c d u v (x - 1) (y - 1) → P (far d c (x - 1)) (far d c (y - 1)) → ⊥) →
-      y' ≡ get_or previous (y - 1) 0 → Seeking c d P u v x y'
-  edge_step l m none e = rw (next_second m e) (seek_next c d arrays.sound P k (x - 1) (y - 1) (omega arith) (omega arith) none)
+      rw (next_first l e, last_is c d arrays.sound arrays v (omega arith))
+      (seek_row c d arrays.sound P k p (omega arith) z)
 
   -- the far ends of the entries at which the search stands are states
-  pub far_first : 0 < x → get_or far' (x - 1) 0 < 16
-  far_first l =
-      let e = key_entry _ _ _ u (x - 1) (k.on₁.entry (x - 1) (omega arith)) in
+  pub far_first : {p : ℕ} → 0 < x → p ≡ x - 1 → get_or far' p 0 < 16
+  far_first {p} l e =
+      let g = key_entry _ _ _ u p (k.on₁.entry p (omega arith)) in
       let h = arrays.sound.states_high in
-      rw arrays.far_is (omega (arith, far_below c arrays.sound d (x - 1) e.0))
+      rw arrays.far_is (omega (arith, far_below c arrays.sound d p g.0))
 
-  pub far_second : 0 < y → get_or far' (y - 1) 0 < 16
-  far_second l =
-      let e = key_entry _ _ _ v (y - 1) (k.on₂.entry (y - 1) (omega arith)) in
+  pub far_second : {q : ℕ} → 0 < y → q ≡ y - 1 → get_or far' q 0 < 16
+  far_second {q} l e =
+      let g = key_entry _ _ _ v q (k.on₂.entry q (omega arith)) in
       let h = arrays.sound.states_high in
-      rw arrays.far_is (omega (arith, far_below c arrays.sound d (y - 1) e.0))
+      rw arrays.far_is (omega (arith, far_below c arrays.sound d q g.0))
 
 -- with the depths of a square, and the test of an edge
-module _ {c : Coder} {d : Direction} {last previous output far' : List ℕ} (arrays : ArraysOf c d last previous output far')
+module _ {c : Coder} {d : Direction} {chain : Chain} {far' : List ℕ} (arrays : ArraysOf c d chain far')
     (square : List (List ℕ)) (n : ℕ) {u v x y : ℕ} (k : Seeking c d (Above square n) u v x y) where
-  abbrev test : Bool
-  test = eqb (get_or output (x - 1) 0) (get_or output (y - 1) 0) && ltb n (at square (get_or far' (x - 1) 0) (get_or far' (y - 1) 0))
+  module _ {p q : ℕ} (first : 0 < x) (second : 0 < y) (p_is : p ≡ x - 1) (q_is : q ≡ y - 1) where
+    abbrev test : Bool
+    test = eqb (get_or c.output p 0) (get_or c.output q 0) && ltb n (at square (get_or far' p 0) (get_or far' q 0))
 
-  pub passed : {y' : ℕ} → 0 < x → 0 < y → test ≡ false → y' ≡ get_or previous (y - 1) 0 → Seeking c d (Above square n) u v x y'
-  passed l m e = edge_step arrays k l m (λ j s.
-      true_false (rw (arrays.output_is, arrays.far_is) (rw (eq-eqb _ _ j.output, lt-ltb _ _ s))) e)
+    pub passed : test ≡ false → Seeking c d (Above square n) u v x (get_or chain.previous q 0)
+    passed e =
+        rw (next_second arrays k second q_is)
+        (seek_next c d arrays.sound (Above square n) k p q (omega arith) (omega arith) (λ j s.
+        true_false (rw arrays.far_is (rw (eq-eqb _ _ j.output, lt-ltb _ _ s))) e))
 
-  pub taken : 0 < x → 0 < y → test ≡ true → Sought c d (Above square n) u v (record { x = x; y = y })
-  taken l m e =
-      let b = both_true _ _ e in
-      seek_found c d arrays.sound (Above square n) k _ refl refl m (λ p q f g.
-      let i : x - 1 ≡ p = omega arith in
-      let j : y - 1 ≡ q = omega arith in (
-        seek_joins c d arrays.sound (Above square n) k p q f g
-            (rw (arrays.output_is, i, j) at (eqb-true (get_or output (x - 1) 0) (get_or output (y - 1) 0) b.0)),
-        rw (arrays.far_is, i, j) at (ltb-true n (at square (get_or far' (x - 1) 0) (get_or far' (y - 1) 0)) b.1),
-      ))
+    pub taken : test ≡ true → Sought c d (Above square n) u v (record { x = x; y = y })
+    taken e =
+        let b = both_true _ _ e in
+        record {
+          seeking = k;
+          first = first;
+          second = second;
+          joins =
+              rw (← p_is, ← q_is)
+              (seek_joins c d arrays.sound (Above square n) k p q (omega arith) (omega arith)
+              (eqb-true (get_or c.output p 0) (get_or c.output q 0) b.0));
+          stands = rw (← p_is, ← q_is) (rw arrays.far_is at (ltb-true n (at square (get_or far' p 0) (get_or far' q 0)) b.1));
+        }

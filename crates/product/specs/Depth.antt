@@ -8,7 +8,7 @@ abbrev pub at : List (List ℕ) → ℕ → ℕ → ℕ
 at d u v = get_or (get_or d u []) v 0
 
 -- 16 rows of 16 columns
-pub record Square (d : List (List ℕ)) : Type 0 where
+pub record Square {A : Type 0} (d : List (List A)) : Type 0 where
   pub rows : length d ≡ 16
   pub columns : (u : ℕ) → u < 16 → length (get_or d u []) ≡ 16
 

@@ -5,6 +5,7 @@ use Rattle.coder.specs.Table.{Sound}
 use Rattle.coder.specs.declared.inner.tables.Coder.{Coder}
 use Rattle.chains.specs.Parts.{place_parts}
 use Rattle.chains.specs.Chain.{is_entry, Chained}
+use Rattle.chains.specs.declared.inner.Chain.{Chain}
 
 -- the state of the entry at each place
 abbrev pub sources : List ℕ
@@ -34,9 +35,8 @@ pub record Joins (c : Coder) (d : Direction) (u v p q : ℕ) : Type 0 where
   pub near₂ : near d c q ≡ v
   pub output : get_or c.output p 0 ≡ get_or c.output q 0
 
--- the arrays that the functions inside take by reference are those of the coder c in the direction d
-pub record ArraysOf (c : Coder) (d : Direction) (last previous output far : List ℕ) : Type 0 where
+-- the chain has the entries of the coder c by their near ends in the direction d, and `far` has their far ends
+pub record ArraysOf (c : Coder) (d : Direction) (chain : Chain) (far : List ℕ) : Type 0 where
   pub sound : Sound c
-  pub output_is : output ≡ c.output
   pub far_is : far ≡ far_ends d c
-  pub chained : Chained (near_ends d c) c.states c.inputs (record { last = last; previous = previous })
+  pub chained : Chained (near_ends d c) c.states c.inputs chain

@@ -1,10 +1,11 @@
 -- The rounds that find the depths, with for each pair the edge that keeps it standing.
-use Rattle.std.specs.Prelude.{ℕ, suc, ◌+◌, ◌*◌, ◌≤◌, ◌<◌, ◌≡◌, Bool, true, false, List, length, get_or}
+use Rattle.std.specs.Prelude.{ℕ, suc, ◌-◌, ◌≤◌, ◌<◌, ◌≡◌, Bool, true, false, List, [], get_or, Option, MatchOption}
 use Rattle.mealy.specs.Product.{Direction, LevelOf}
 use Rattle.coder.specs.Table.{machine_of_coder, Sound}
 use Rattle.coder.specs.declared.inner.tables.Coder.{Coder}
 pub use Rattle.setting.specs.Words.{StartIn, BothStart}
 use Rattle.chains.specs.Chain.{has_key}
+use Rattle.chains.specs.declared.inner.Chain.{Chain}
 use Rattle.product.specs.Depth.{at, endless, Square}
 use Rattle.product.specs.Entries.{near_ends, far_ends, far, Joins, ArraysOf}
 use Rattle.product.specs.declared.inner.Edge.{Edge}
@@ -26,29 +27,34 @@ pub record Seeking (c : Coder) (d : Direction) (P : ℕ → ℕ → Type 0) (u v
   pub on₂ : OnChain c d v y
   pub none_before : NoneBefore c d P u v x y
 
--- it has found one, or there is none
+-- it has found one
 pub record Sought (c : Coder) (d : Direction) (P : ℕ → ℕ → Type 0) (u v : ℕ) (e : Edge) : Type 0 where
   pub seeking : Seeking c d P u v e.x e.y
-  pub found : 0 < e.x → 0 < e.y
-  pub edge : (p q : ℕ) → e.x ≡ suc p → e.y ≡ suc q → Joins c d u v p q × P (far d c p) (far d c q)
+  pub first : 0 < e.x
+  pub second : 0 < e.y
+  pub joins : Joins c d u v (e.x - 1) (e.y - 1)
+  pub stands : P (far d c (e.x - 1)) (far d c (e.y - 1))
+
+-- no edge of (u, v) has far ends in P
+abbrev pub NoEdge : Coder → Direction → (ℕ → ℕ → Type 0) → ℕ → ℕ → Type 0
+NoEdge c d P u v = (p q : ℕ) → Joins c d u v p q → P (far d c p) (far d c q) → ⊥
 
 -- the pairs of depth above k
 abbrev pub Above : List (List ℕ) → ℕ → ℕ → ℕ → Type 0
 Above square k s t = k < at square s t
 
--- what `seek` asks: its arrays are those of some coder in some direction, and it begins at an edge of some pair
-pub record SeekAsked (last previous output far' : List ℕ) (square : List (List ℕ)) (k : ℕ) (v : ℕ) (e : Edge) : Type 0 where
-  pub c : Coder
+-- what `seek` asks: its arrays are those of the coder in some direction, and it begins at an edge of some pair
+pub record SeekAsked (c : Coder) (chain : Chain) (far' : List ℕ) (square : List (List ℕ)) (k : ℕ) (v : ℕ) (e : Edge) : Type 0 where
   pub d : Direction
   pub u : ℕ
-  pub arrays : ArraysOf c d last previous output far'
+  pub arrays : ArraysOf c d chain far'
   pub seeking : Seeking c d (Above square k) u v e.x e.y
 
--- what `seek` does, whatever coder, direction and first state its arrays and its edge are of
-abbrev pub SeekDone : List ℕ → List ℕ → List ℕ → List ℕ → List (List ℕ) → ℕ → ℕ → Edge → Edge → Type 0
-SeekDone last previous output far' square k v from r =
-    (c : Coder) (d : Direction) (u : ℕ) → ArraysOf c d last previous output far' →
-    Seeking c d (Above square k) u v from.x from.y → Sought c d (Above square k) u v r
+-- what `seek` does, whatever direction its arrays are of and whatever first state its edge is of
+abbrev pub SeekDone : Coder → Chain → List ℕ → List (List ℕ) → ℕ → ℕ → Edge → Option Edge → Type 0
+SeekDone c chain far' square k v from r =
+    (d : Direction) (u : ℕ) → ArraysOf c d chain far' → Seeking c d (Above square k) u v from.x from.y →
+    MatchOption r (NoEdge c d (Above square k) u v) (Sought c d (Above square k) u v)
 
 -- The depth x of a pair is right up to level k: at each of these levels the pair stands exactly below x, and x is above k only
 -- as `endless`.
@@ -62,32 +68,28 @@ pub record RightTo (P : ℕ → Type 0) (k x : ℕ) : Type 0 where
 abbrev pub CoderLevel : Coder → Direction → ℕ → ℕ → ℕ → ℕ → Type 0
 CoderLevel c d starts = LevelOf (machine_of_coder c) (StartIn c.states starts) d
 
--- The edges x y kept for each pair, at place 16 u + v of two arrays.
-pub record Kept (xs ys : List ℕ) : Type 0 where
-  pub firsts : length xs ≡ 256
-  pub seconds : length ys ≡ 256
-
-abbrev pub edge_at : List ℕ → List ℕ → ℕ → ℕ → Edge
-edge_at xs ys u v = record { x = get_or xs (16 * u + v) 0; y = get_or ys (16 * u + v) 0 }
+-- the edge kept for a pair
+abbrev pub edge_at : List (List Edge) → ℕ → ℕ → Edge
+edge_at edges u v = get_or (get_or edges u []) v (record { x = 0; y = 0 })
 
 -- Before round k: every depth is right up to level k, and the search for an edge of each pair that stands has passed over no edge to
 -- a pair of level k.
-pub record Before (c : Coder) (d : Direction) (starts : ℕ) (k : ℕ) (square : List (List ℕ)) (xs ys : List ℕ) : Type 0 where
+pub record Before (c : Coder) (d : Direction) (starts : ℕ) (k : ℕ) (square : List (List ℕ)) (edges : List (List Edge)) : Type 0 where
   pub shape : Square square
-  pub kept : Kept xs ys
+  pub kept : Square edges
   pub right : (u v : ℕ) → u < 16 → v < 16 → RightTo (λ m. CoderLevel c d starts m u v) k (at square u v)
   pub seeking :
       (u v : ℕ) → u < 16 → v < 16 → at square u v ≡ endless →
-      Seeking c d (CoderLevel c d starts k) u v (edge_at xs ys u v).x (edge_at xs ys u v).y
+      Seeking c d (CoderLevel c d starts k) u v (edge_at edges u v).x (edge_at edges u v).y
 
 -- After it: every depth is right up to level k + 1, and the search has still passed over no edge to a pair of level k.
-pub record After (c : Coder) (d : Direction) (starts : ℕ) (k : ℕ) (square : List (List ℕ)) (xs ys : List ℕ) : Type 0 where
+pub record After (c : Coder) (d : Direction) (starts : ℕ) (k : ℕ) (square : List (List ℕ)) (edges : List (List Edge)) : Type 0 where
   pub shape : Square square
-  pub kept : Kept xs ys
+  pub kept : Square edges
   pub right : (u v : ℕ) → u < 16 → v < 16 → RightTo (λ m. CoderLevel c d starts m u v) (suc k) (at square u v)
   pub seeking :
       (u v : ℕ) → u < 16 → v < 16 → at square u v ≡ endless →
-      Seeking c d (CoderLevel c d starts k) u v (edge_at xs ys u v).x (edge_at xs ys u v).y
+      Seeking c d (CoderLevel c d starts k) u v (edge_at edges u v).x (edge_at edges u v).y
 
 -- some pair has the depth x
 pub record Some (square : List (List ℕ)) (x : ℕ) : Type 0 where
@@ -102,26 +104,24 @@ pub record Changed (square : List (List ℕ)) (k : ℕ) (r : Bool) : Type 0 wher
   pub yes' : r ≡ true → Some square (suc k)
   pub no' : r ≡ false → Some square (suc k) → ⊥
 
-pub record RoundAsked (last previous output far' : List ℕ) (states k : ℕ) (square : List (List ℕ)) (xs ys : List ℕ) : Type 0 where
-  pub c : Coder
+pub record RoundAsked (c : Coder) (chain : Chain) (far' : List ℕ) (k : ℕ) (square : List (List ℕ)) (edges : List (List Edge)) : Type 0 where
   pub d : Direction
   pub starts : ℕ
-  pub arrays : ArraysOf c d last previous output far'
-  pub states_is : states ≡ c.states
-  pub before : Before c d starts k square xs ys
+  pub arrays : ArraysOf c d chain far'
+  pub before : Before c d starts k square edges
   pub level : suc k < endless
 
 -- what a round does
-pub record Rounded (c : Coder) (d : Direction) (starts : ℕ) (k : ℕ) (square : List (List ℕ)) (xs ys : List ℕ) (r : Bool) : Type 0 where
-  pub after : After c d starts k square xs ys
+pub record Rounded (c : Coder) (d : Direction) (starts : ℕ) (k : ℕ) (square : List (List ℕ)) (edges : List (List Edge)) (r : Bool) : Type 0 where
+  pub after : After c d starts k square edges
   pub changed : Changed square k r
 
--- the same, whatever coder, direction and start states the arrays are of
+-- the same, whatever direction and start states the arrays are of
 abbrev pub RoundDone :
-    List ℕ → List ℕ → List ℕ → List ℕ → ℕ → ℕ → List (List ℕ) → List ℕ → List ℕ → List (List ℕ) → List ℕ → List ℕ → Bool → Type 0
-RoundDone last previous output far' states k square xs ys square' xs' ys' r =
-    (c : Coder) (d : Direction) (starts : ℕ) → ArraysOf c d last previous output far' → states ≡ c.states →
-    Before c d starts k square xs ys → Rounded c d starts k square' xs' ys' r
+    Coder → Chain → List ℕ → ℕ → List (List ℕ) → List (List Edge) → List (List ℕ) → List (List Edge) → Bool → Type 0
+RoundDone c chain far' k square edges square' edges' r =
+    (d : Direction) (starts : ℕ) → ArraysOf c d chain far' → Before c d starts k square edges →
+    Rounded c d starts k square' edges' r
 
 -- Before the first round: the pairs of start states are endless, the others have depth 0.
 pub record Started (n starts : ℕ) (square : List (List ℕ)) : Type 0 where
@@ -130,10 +130,9 @@ pub record Started (n starts : ℕ) (square : List (List ℕ)) : Type 0 where
   pub other : (u v : ℕ) → u < 16 → v < 16 → (BothStart n starts u v → ⊥) → at square u v ≡ 0
 
 -- the first edge of each pair whose first state is below n
-pub record FirstEdges (last : List ℕ) (n : ℕ) (xs ys : List ℕ) : Type 0 where
-  pub kept : Kept xs ys
-  pub first : (u v : ℕ) → u < n → v < 16 → (edge_at xs ys u v).x ≡ get_or last u 0
-  pub second : (u v : ℕ) → u < n → v < 16 → (edge_at xs ys u v).y ≡ get_or last v 0
+pub record FirstEdges (last : List ℕ) (n : ℕ) (edges : List (List Edge)) : Type 0 where
+  pub kept : Square edges
+  pub first : (u v : ℕ) → u < n → v < 16 → edge_at edges u v ≡ record { x = get_or last u 0; y = get_or last v 0 }
 
 pub record AlongAsked (c : Coder) (near' far' : List ℕ) : Type 0 where
   pub d : Direction

@@ -3,9 +3,11 @@ use mathlib.Core.Path.{◌≡◌, sym, ◌∙◌}
 use mathlib.Core.List.{List}
 use Prim.Native.Nat.{ℕ}
 use Rattle.reader.specs.Read.{header_of, EntriesPart}
+use Rattle.std.specs.Prelude.{Result}
+use Rattle.coder.specs.declared.refusal.Refusal.{Refusal}
 use Rattle.reader.specs.declared.Header.{Header}
 
-pub counts_determined : (f : List ℕ) (r r' : Header) → r ≡ header_of f → r' ≡ header_of f → r ≡ r'
+pub counts_determined : (f : List ℕ) (r r' : Result Header Refusal) → r ≡ header_of f → r' ≡ header_of f → r ≡ r'
 counts_determined f r r' p q = p ∙ sym q
 
 pub entries_determined :

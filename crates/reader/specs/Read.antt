@@ -1,13 +1,17 @@
 -- The reader of coder files is two calls (document 01, "Coder file"): what each gives.
-use Rattle.std.specs.Prelude.{ℕ, ◌+◌, ◌≡◌, List, []}
+use Rattle.std.specs.Prelude.{ℕ, ◌+◌, ◌≡◌, List, [], Result, Ok}
 use Rattle.coder.specs.Refusal.{answer}
 use Rattle.coder.specs.File.{file_refusal, states_of, inputs_of, outputs_of, entries_of}
+use Rattle.coder.specs.declared.refusal.Refusal.{Refusal}
+use Rattle.coder.specs.Refused.{Refused}
 use Rattle.reader.specs.declared.Header.{Header}
-use Rattle.reader.specs.declared.Header.TheVariants.{Refused, Counts}
 
 -- The first call: the counts, or the refusal.
-abbrev pub header_of : List ℕ → Header
-header_of f = answer (file_refusal f) (λ k. Refused k) (Counts (states_of f) (inputs_of f) (outputs_of f))
+abbrev pub header : ℕ → ℕ → ℕ → Header
+header n i o = record { states = n; inputs = i; outputs = o }
+
+abbrev pub header_of : List ℕ → Result Header Refusal
+header_of f = answer (file_refusal f) (λ k. Refused k) (Ok (header (states_of f) (inputs_of f) (outputs_of f)))
 
 -- The second call: the entries, or an empty part.
 abbrev pub part_of : List ℕ → List ℕ

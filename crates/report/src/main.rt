@@ -4,8 +4,6 @@
 fn main() {
     let mut input = [0u8; 1024];
     let n = io::read_full(0, &mut input);
-    let t = report_text::report(&input[..n]);
-    let bytes = t.bytes;
-    let len = t.len;
-    io::write_all(1, &bytes[..len]);
+    let text = report_text::report(&input[..n]);
+    io::write_all(1, &text.bytes[..text.len]);
 }

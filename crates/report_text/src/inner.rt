@@ -9,6 +9,7 @@ ghost use Rattle.report_text.specs.Text.{text_bytes, VerdictWritten, ReportWritt
 
 use pair_text::inner::no_decoder;
 use placing::inner::put;
+use search::Verdict;
 use text::inner::word_number;
 
 // How many bytes hold the text of any report.
@@ -22,6 +23,7 @@ pub fn zeros() -> [u8; BYTES]
 }
 
 // The text on a refused file.
+#[tactic(auto, using(text::proofs::Decimals::three_digits))]
 fn refused(out: &mut [u8], k: usize) -> usize
     requires { (k < 1000) × (text_bytes ≤ length out.old) }
     ensures { Placed out.old 0 (refused_text k) out.new result }
@@ -31,6 +33,7 @@ fn refused(out: &mut [u8], k: usize) -> usize
 }
 
 // The first line on an accepted file.
+#[tactic(auto, using(text::proofs::Decimals::three_digits))]
 fn coder_line(out: &mut [u8], states: usize, inputs: usize, outputs: usize) -> usize
     requires { (states < 1000) × (inputs < 1000) × (outputs < 1000) × (text_bytes ≤ length out.old) }
     ensures placed { Placed out.old 0 (coder_line states inputs outputs) out.new result }
@@ -43,6 +46,7 @@ fn coder_line(out: &mut [u8], states: usize, inputs: usize, outputs: usize) -> u
 }
 
 // The line of a window.
+#[tactic(auto, using(text::proofs::Decimals::three_digits))]
 fn window_line(out: &mut [u8], at: usize, before: usize, after: usize) -> usize
     requires { (before < 1000) × (after < 1000) × (at + 15 ≤ length out.old) }
     ensures { Placed out.old at (window_line before after) out.new result }
@@ -65,13 +69,10 @@ fn verdict_lines(file: &[u8], out: &mut [u8], at: usize) -> usize
     ensures { VerdictWritten file.now out.old at out.new result }
 {
     let mut letters = buffer();
-    let found = search::search(file, 0, &mut letters);
-    match found {
-        search::SearchResult::Refused(_) => at,
-        search::SearchResult::Found(v) => match v {
-            search::Verdict::Least(w) => window_line(out, at, w.before, w.after),
-            search::Verdict::NoDecoder(p) => no_decoder(out, at, p, &letters),
-        },
+    match search::search(file, 0, &mut letters) {
+        Ok(Verdict::Least(w)) => window_line(out, at, w.before, w.after),
+        Ok(Verdict::NoDecoder(p)) => no_decoder(out, at, p, &letters),
+        Err(_) => at,
     }
 }
 
@@ -80,16 +81,11 @@ pub fn write(file: &[u8], out: &mut [u8]) -> usize
     requires { text_bytes ≤ length out.old }
     ensures { ReportWritten file.now out.old out.new result }
 {
-    let header = reader::counts(file);
-    match header {
-        reader::Header::Refused(k) => refused(out, k),
-        reader::Header::Counts {
-            states,
-            inputs,
-            outputs,
-        } => {
-            let at = coder_line(out, states, inputs, outputs);
+    match reader::counts(file) {
+        Ok(header) => {
+            let at = coder_line(out, header.states, header.inputs, header.outputs);
             verdict_lines(file, out, at)
         }
+        Err(refusal) => refused(out, refusal.number()),
     }
 }

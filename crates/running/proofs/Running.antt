@@ -18,7 +18,7 @@ use Rattle.coder.specs.Table.{coder_of, table_at}
 use Rattle.running.specs.Run.{run_refusal, tables_machine, Runnable, Ran, RunAsked}
 use Rattle.coder.specs.declared.inner.tables.Coder.{Coder}
 use Rattle.coder.proofs.Refusals.{refuse_not, first_none, letters_below_lem}
-use Rattle.mealy.proofs.Letters.{letters_higher}
+use Rattle.mealy.proofs.Letters.{letters_higher, letter_at_lem}
 use Rattle.coder.proofs.Accepted.{accepted}
 use Rattle.coder.proofs.Tables.{table_same, sound_coder}
 
@@ -56,6 +56,9 @@ module _ {M : Machine} {st : ℕ} {xs before o : List ℕ} {s i : ℕ} (a : Reac
 
   pub reached_bytes : o ≡ outs M st xs ++ drop (length xs) before
   reached_bytes = sym (take-append-drop i o) ∙ rw (a.rest, a.wrote, e, drop-length, append-nil)
+
+-- what the loop over the letters needs
+pub ruleset reaching = (reached_none, reached_more, reached_end, reached_bytes, letter_at_lem)
 
 pub record RunAccepted (f : List ℕ) (s : ℕ) (xs : List ℕ) (fit : Bool) : Type 0 where
   pub file : file_refusal f ≡ 0

@@ -1,14 +1,16 @@
 -- The coder run for a host in C: its result laid out, and the call's promise.
-use Rattle.std.specs.Prelude.{ℕ, List, [], ◌∷◌}
-use Rattle.layout.specs.Host.{Laid, refused, done, FromHost}
+use Rattle.std.specs.Prelude.{ℕ, List, [], ◌∷◌, Result}
+use Rattle.layout.specs.Host.{Laid, laid, FromHost}
 use Rattle.running.specs.Run.{RunWith}
-use Rattle.running.specs.declared.RunResult.{RunResult}
-use Rattle.running.specs.declared.RunResult.TheVariants.{Refused, Done}
+use Rattle.coder.specs.declared.refusal.Refusal.{Refusal}
+use Rattle.running.specs.declared.RunEnd.{RunEnd}
 
 -- Field 0 is the number of letters written and field 1 the end state ("Numbers of refusal", the sentence on counts).
-abbrev pub laid_run : RunResult → Laid
-laid_run (Refused k) = refused k
-laid_run (Done n e) = done (n ∷ e ∷ [])
+abbrev pub run_fields : RunEnd → List ℕ
+run_fields r = r.count ∷ r.end ∷ []
+
+abbrev pub laid_run : Result RunEnd Refusal → Laid
+laid_run = laid run_fields
 
 -- Demand 2, first sentence, for a host.
 abbrev pub RunFromHost : List ℕ → ℕ → List ℕ → List ℕ → List ℕ → ℕ → List ℕ → List ℕ → Type 0

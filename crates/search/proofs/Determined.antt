@@ -29,8 +29,8 @@ use Rattle.values.proofs.Orders.{is_order}
 use Rattle.search.specs.Search.{search_refusal_in, PairReport, Says, SaysOf, IsNoDecoder, FoundVerdict, SearchWith, SearchPromise}
 use Rattle.search.specs.declared.Verdict.{Verdict}
 use Rattle.search.specs.declared.Verdict.TheVariants.{Least, NoDecoder}
-use Rattle.search.specs.declared.SearchResult.{SearchResult}
-use Rattle.search.specs.declared.SearchResult.TheVariants.{Found}
+use Rattle.std.specs.Prelude.{Result, Ok}
+use Rattle.coder.specs.declared.refusal.Refusal.{Refusal}
 use Rattle.search.proofs.Files.{search_accepted}
 
 -- ---- a search that was not refused
@@ -41,15 +41,15 @@ pub record FoundSays (o : Order) (f : List ℕ) (p : ℕ) (before : List ℕ) (v
   pub says : SaysOf o f p v before after
 
 pub found :
-    (o : Order) (f : List ℕ) (p : ℕ) (before : List ℕ) (v : Verdict) (after : List ℕ) → SearchPromise o f p before (Found v) after →
+    (o : Order) (f : List ℕ) (p : ℕ) (before : List ℕ) (v : Verdict) (after : List ℕ) → SearchPromise o f p before (Ok v) after →
     FoundSays o f p before v after
 found o f p before v after = go (search_refusal_in f p (length before) true) refl
   where
     go :
-        (k : ℕ) → search_refusal_in f p (length before) true ≡ k → SearchPromise o f p before (Found v) after →
+        (k : ℕ) → search_refusal_in f p (length before) true ≡ k → SearchPromise o f p before (Ok v) after →
         FoundSays o f p before v after
     go zero e h =
-        let q : FoundVerdict o f p (Found v) before after = rw e at h in
+        let q : FoundVerdict o f p (Ok v) before after = rw e at h in
         let d = q.is in
         let z : v ≡ q.verdict = cc in
         record { accepted = e; says = rw z q.says }
@@ -69,7 +69,7 @@ exactly R S P p (NoDecoder q) before after h = (λ x. h.none, λ none. tt)
 
 -- Demand 3, first sentence, in both directions: "no decoder" where windows of all sizes fail, and there alone.
 pub no_decoder_exactly :
-    (o : Order) (f : List ℕ) (p : ℕ) (before : List ℕ) (v : Verdict) (after : List ℕ) → SearchPromise o f p before (Found v) after →
+    (o : Order) (f : List ℕ) (p : ℕ) (before : List ℕ) (v : Verdict) (after : List ℕ) → SearchPromise o f p before (Ok v) after →
     IsNoDecoder v ↔ ((b a : ℕ) → Works (setting_after f p) b a → ⊥)
 no_decoder_exactly o f p before v after h =
     exactly (relation_of o) (setting_after f p) (setting_of f) p v before after (found o f p before v after h).says
@@ -78,7 +78,7 @@ no_decoder_exactly o f p before v after h =
 -- their buffers (document 02, 6/13, the sentence on existence)
 pub no_decoder_any :
     (o o' : Order) (f : List ℕ) (p p' : ℕ) (before before' : List ℕ) (v v' : Verdict) (after after' : List ℕ) →
-    SearchPromise o f p before (Found v) after → SearchPromise o' f p' before' (Found v') after' → IsNoDecoder v ↔ IsNoDecoder v'
+    SearchPromise o f p before (Ok v) after → SearchPromise o' f p' before' (Ok v') after' → IsNoDecoder v ↔ IsNoDecoder v'
 no_decoder_any o o' f p p' before before' v v' after after' h h' =
     let e = no_decoder_exactly o f p before v after h in
     let e' = no_decoder_exactly o' f p' before' v' after' h' in
@@ -117,7 +117,7 @@ module _ {S S' P : Setting} {q q' : LoopedPair} {before after after' : List ℕ}
 -- the pair depends neither on the order nor on the settle count
 pub pair_any :
     (o o' : Order) (f : List ℕ) (p p' : ℕ) (before : List ℕ) (q q' : LoopedPair) (after after' : List ℕ) →
-    SearchPromise o f p before (Found (NoDecoder q)) after → SearchPromise o' f p' before (Found (NoDecoder q')) after' →
+    SearchPromise o f p before (Ok (NoDecoder q)) after → SearchPromise o' f p' before (Ok (NoDecoder q')) after' →
     (q ≡ q') × (after ≡ after')
 pair_any o o' f p p' before q q' after after' h h' =
     pair_determined (found o f p before (NoDecoder q) after h).says (found o' f p' before (NoDecoder q') after' h').says
@@ -125,7 +125,7 @@ pair_any o o' f p p' before q q' after after' h h' =
 -- it keeps both bounds of N × N letters ("Looped pair", the sentence on them)
 pub pair_short :
     (o : Order) (f : List ℕ) (p : ℕ) (before : List ℕ) (q : LoopedPair) (after : List ℕ) →
-    SearchPromise o f p before (Found (NoDecoder q)) after → Short (states_of f) (pair_of q after)
+    SearchPromise o f p before (Ok (NoDecoder q)) after → Short (states_of f) (pair_of q after)
 unfolding machine_of
 pair_short o f p before q after h =
     let s = found o f p before (NoDecoder q) after h in
@@ -160,7 +160,7 @@ says_determined o f p = verdict_determined (is_order o) (setting_after f p) (set
 -- Two outcomes that meet the promise for the same arguments, the order among them, are equal, whatever other buffers are lent: result and
 -- buffer.
 pub search_determined :
-    (o : Order) (f : List ℕ) (p : ℕ) (before : List ℕ) (others : Bool) (r r' : SearchResult) (after after' : List ℕ) →
+    (o : Order) (f : List ℕ) (p : ℕ) (before : List ℕ) (others : Bool) (r r' : Result Verdict Refusal) (after after' : List ℕ) →
     SearchWith o f p before others r after → SearchWith o f p before others r' after' → (r ≡ r') × (after ≡ after')
 search_determined o f p before others r r' after after' = go (search_refusal_in f p (length before) others) refl
   where
@@ -171,7 +171,7 @@ search_determined o f p before others r r' after after' = go (search_refusal_in 
         let x = rw e at h in
         let y = rw e at h' in
         let d = says_determined o f p before x.verdict y.verdict after after' x.says y.says in
-        (x.is ∙ ap Found d.0 ∙ sym y.is, d.1)
+        (x.is ∙ ap (λ v. Ok v) d.0 ∙ sym y.is, d.1)
     go (suc k) e h h' =
         let x = rw e at h in
         let y = rw e at h' in

@@ -38,8 +38,9 @@ use Rattle.values.proofs.Orders.{is_order}
 use Rattle.search.specs.Search.{search_refusal_in, wanted, WindowReport, PairReport, SaysOf, SearchWith}
 use Rattle.search.specs.declared.Verdict.{Verdict}
 use Rattle.search.specs.declared.Verdict.TheVariants.{Least, NoDecoder}
-use Rattle.search.specs.declared.SearchResult.{SearchResult}
-use Rattle.search.specs.declared.SearchResult.TheVariants.{Refused, Found}
+use Rattle.std.specs.Prelude.{Result, Ok}
+use Rattle.coder.specs.declared.refusal.Refusal.{Refusal}
+use Rattle.coder.specs.Refused.{Refused}
 use Rattle.search.proofs.Files.{search_accepted}
 
 -- ---- the two reports
@@ -116,15 +117,15 @@ some_verdict o f p before e room =
 -- Some result and some buffer meet the promise, whatever other buffers are lent: the refusal and the buffer as it was, or a verdict.
 pub search_exists :
     (o : Order) (f : List ℕ) (p : ℕ) (before : List ℕ) (others : Bool) →
-    (r : SearchResult) × (after : List ℕ) × SearchWith o f p before others r after
+    (r : Result Verdict Refusal) × (after : List ℕ) × SearchWith o f p before others r after
 search_exists o f p before others = go (search_refusal_in f p (length before) others) refl
   where
     go :
         (k : ℕ) → search_refusal_in f p (length before) others ≡ k →
-        (r : SearchResult) × (after : List ℕ) × SearchWith o f p before others r after
+        (r : Result Verdict Refusal) × (after : List ℕ) × SearchWith o f p before others r after
     go zero e =
         let a = search_accepted f p _ e in
         let room = (both_true (leb wanted (length before)) others a.fits).0 in
         let v = some_verdict o f p before a.file (leb-true _ _ room) in
-        (Found v.0, v.1, rw e (record { verdict = v.0; is = refl; says = v.2 }))
+        (Ok v.0, v.1, rw e (record { verdict = v.0; is = refl; says = v.2 }))
     go (suc k) e = (Refused (suc k), before, rw e (record { is = refl; stays = refl }))

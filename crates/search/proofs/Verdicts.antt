@@ -1,5 +1,5 @@
 -- From the least window or none, and the first looped pair, to what the verdict says.
-use mathlib.Core.Path.{◌≡◌, refl}
+use mathlib.Core.Path.{refl}
 use mathlib.Core.List.{List}
 use Prim.Native.Nat.{ℕ, ◌*◌}
 use native.Mathlib.Nat.{mul-le-mul}
@@ -13,9 +13,7 @@ use Rattle.coder.specs.declared.inner.tables.Coder.{Coder}
 use Rattle.values.specs.Pair.{pair_of}
 use Rattle.values.specs.declared.Window.{Window}
 use Rattle.values.specs.declared.LoopedPair.{LoopedPair}
-use Rattle.least.specs.Report.{LeastReport, LeastSays}
-use Rattle.least.specs.declared.LeastWindow.{LeastWindow}
-use Rattle.least.specs.declared.LeastWindow.TheVariants.{None, Some}
+use Rattle.least.specs.Report.{LeastReport}
 use Rattle.loops.specs.Pair.{SomeValid, FoundPair}
 use Rattle.first_pair.proofs.Endless.{endless_valid}
 use Rattle.search.specs.Search.{Says}
@@ -25,19 +23,16 @@ module _ (c : Coder) (starts : ℕ) (conflicts : List ℕ) (R : Relation) (p : �
   abbrev S : Setting
   S = worded (machine_of_coder c) starts conflicts
 
-  module _ {r : LeastWindow} (says : LeastSays R p S r) where
-    pub window_says : {w : Window} (letters : List ℕ) → r ≡ Some w → Says R S S p (Least w) letters letters
-    window_says {w} letters e =
-        let l : LeastReport R p S w = rw e at says in
-        record { settle = l.settle; least = l.least; before_small = l.before_small; after_small = l.after_small; stays = refl }
+  pub window_says : {w : Window} (letters : List ℕ) → LeastReport R p S w → Says R S S p (Least w) letters letters
+  window_says letters l =
+      record { settle = l.settle; least = l.least; before_small = l.before_small; after_small = l.after_small; stays = refl }
 
-    -- where a conflicting edge joins the levels of every window, some pair is valid
-    pub some_valid : Sound c → Closed S → r ≡ None → SomeValid S
-    some_valid sound closed e =
-        let n = c.states in
-        let a : Ambiguous S (n * n) (n * n) = (rw e at says) (n * n) (n * n) in
-        let q = endless_valid S closed (λ s p. p.0) a in
-        record { pair = q.0; valid = q.1; few = omega (arith, q.2, mul-le-mul sound.states_high sound.states_high) }
+  -- where a conflicting edge joins the levels of every window, some pair is valid
+  pub some_valid : Sound c → Closed S → ((b a : ℕ) → Ambiguous S b a) → SomeValid S
+  some_valid sound closed ambiguous =
+      let n = c.states in
+      let q = endless_valid S closed (λ s p. p.0) (ambiguous (n * n) (n * n)) in
+      record { pair = q.0; valid = q.1; few = omega (arith, q.2, mul-le-mul sound.states_high sound.states_high) }
 
   pub pair_says :
       Closed S → (q : LoopedPair) (letters after : List ℕ) → FoundPair c starts conflicts q letters after →

@@ -1,5 +1,5 @@
 -- The window search: its refusal, and what its verdict says.
-use Rattle.std.specs.Prelude.{ℕ, ◌*◌, ◌≤◌, ◌≡◌, Bool, true, not, ◌&&◌, List, length, drop, leb}
+use Rattle.std.specs.Prelude.{ℕ, ◌*◌, ◌≤◌, ◌≡◌, Bool, true, not, ◌&&◌, List, length, drop, leb, Result, Ok}
 use Rattle.mealy.specs.Setting.{Setting}
 use Rattle.mealy.specs.Window.{Works}
 use Rattle.mealy.specs.Order.{Relation, Least as LeastOf}
@@ -17,8 +17,8 @@ use Rattle.values.specs.declared.Order.{Order}
 use Rattle.values.specs.declared.LoopedPair.{LoopedPair}
 use Rattle.search.specs.declared.Verdict.{Verdict}
 use Rattle.search.specs.declared.Verdict.TheVariants.{Least, NoDecoder}
-use Rattle.search.specs.declared.SearchResult.{SearchResult}
-use Rattle.search.specs.declared.SearchResult.TheVariants.{Refused, Found}
+use Rattle.coder.specs.declared.refusal.Refusal.{Refusal}
+use Rattle.coder.specs.Refused.{Refused}
 
 -- The call's refusal, in checking order: the file's, 14 (the settle count p), then 11 (some lent buffer is too short).
 unfoldable pub search_refusal : List ℕ → ℕ → Bool → ℕ
@@ -64,21 +64,21 @@ abbrev pub IsNoDecoder : Verdict → Type 0
 IsNoDecoder (Least w) = ⊥
 IsNoDecoder (NoDecoder q) = Unit {0}
 
-pub record FoundVerdict (o : Order) (f : List ℕ) (p : ℕ) (r : SearchResult) (before after : List ℕ) : Type 0 where
+pub record FoundVerdict (o : Order) (f : List ℕ) (p : ℕ) (r : Result Verdict Refusal) (before after : List ℕ) : Type 0 where
   pub verdict : Verdict
-  pub is : r ≡ Found verdict
+  pub is : r ≡ Ok verdict
   pub says : SaysOf o f p verdict before after
 
-pub record RefusedSearch (k : ℕ) (r : SearchResult) (before after : List ℕ) : Type 0 where
+pub record RefusedSearch (k : ℕ) (r : Result Verdict Refusal) (before after : List ℕ) : Type 0 where
   pub is : r ≡ Refused k
   pub stays : after ≡ before
 
 -- The first refusal that applies and the buffer as it was, or a verdict that is right for the file's machine, with the least window in the
 -- order o (document 02, 1/13) with the settle count p.
-abbrev pub SearchWith : Order → List ℕ → ℕ → List ℕ → Bool → SearchResult → List ℕ → Type 0
+abbrev pub SearchWith : Order → List ℕ → ℕ → List ℕ → Bool → Result Verdict Refusal → List ℕ → Type 0
 SearchWith o f p before others r after =
     upon (search_refusal_in f p (length before) others) (λ k. RefusedSearch k r before after) (FoundVerdict o f p r before after)
 
 -- The library's own call lends no other buffer.
-abbrev pub SearchPromise : Order → List ℕ → ℕ → List ℕ → SearchResult → List ℕ → Type 0
+abbrev pub SearchPromise : Order → List ℕ → ℕ → List ℕ → Result Verdict Refusal → List ℕ → Type 0
 SearchPromise o f p before r after = SearchWith o f p before true r after

@@ -4,64 +4,51 @@ ghost use Rattle.std.specs.Prelude.{◌≡◌, ◌≤◌, leb, length};
 ghost use Rattle.mealy.specs.Setting.{Closed, worded};
 ghost use Rattle.coder.specs.Table.{machine_of_coder, Sound};
 ghost use Rattle.values.specs.Order.{relation_of};
+ghost use Rattle.coder.specs.Refused.{number_in};
 ghost use Rattle.search.specs.Search.{search_refusal, wanted, Says, SaysOf, SearchWith};
 
-use crate::{SearchResult, Verdict};
+use crate::Verdict;
 use coder::inner::tables::Coder;
+use coder::refusal::Refusal;
 use layout::inner::enough;
-use least::LeastWindow;
+use least::inner::Depths;
 use loops::inner::find::find;
 use values::Order;
 
 // The bytes that the search wants for any verdict.
 pub const WANTED: usize = 1026;
 
-// The refusal of a search, or 0. `fits` says whether all lent buffers are long enough.
-fn refusal(file: &[u8], settle: usize, fits: bool) -> usize
-    ensures { result ≡ search_refusal file.now settle fits }
+// The refusal of a search. `fits` says whether all lent buffers are long enough.
+#[tactic(auto, unfolding(crate::specs::Search::search_refusal))]
+fn refusal(file: &[u8], settle: usize, fits: bool) -> Result<(), Refusal>
+    ensures { number_in result ≡ search_refusal file.now settle fits }
 {
-    let k = reader::inner::refusal(file);
-    if k != 0 {
-        return k;
+    reader::inner::refusal(file)?;
+    window_limits::inner::settle(settle)?;
+    if fits {
+        Ok(())
+    } else {
+        Err(Refusal::ShortBuffer)
     }
-    let j = window_limits::inner::settle(settle);
-    if j != 0 {
-        return j;
-    }
-    if fits { 0 } else { 11 }
 }
 
 // The verdict on a coder whose runs start in the states of the word, word i of `conflicts` holding the letters that conflict with i; the
 // window is the least in the order, and has the settle count whose start states these are.
 fn verdict(
-    c: Coder,
+    c: &Coder,
     starts: u16,
     conflicts: &[u16; 16],
     order: Order,
     settle: usize,
     letters: &mut [u8],
 ) -> Verdict
-    requires { Sound c × Closed (worded (machine_of_coder c) starts conflicts.now) × (wanted ≤ length letters.old) }
-    ensures { Says (relation_of order) (worded (machine_of_coder c) starts conflicts.now) (worded (machine_of_coder c) starts conflicts.now) settle result letters.old letters.new }
+    requires { Sound c.now × Closed (worded (machine_of_coder c.now) starts conflicts.now) × (wanted ≤ length letters.old) }
+    ensures { Says (relation_of order) (worded (machine_of_coder c.now) starts conflicts.now) (worded (machine_of_coder c.now) starts conflicts.now) settle result letters.old letters.new }
 {
-    let states = c.states;
-    let inputs = c.inputs;
-    let backs = product::inner::back(c, starts);
-    let forwards = product::inner::forward(c, starts);
-    let chain = chains::inner::by_key(&c.output, states, inputs);
-    let least = least::inner::least_for(
-        c,
-        &chain.last,
-        &chain.previous,
-        &backs,
-        &forwards,
-        conflicts,
-        order,
-        settle,
-    );
-    match least {
-        LeastWindow::None => Verdict::NoDecoder(find(c, starts, conflicts, letters)),
-        LeastWindow::Some(w) => Verdict::Least(w),
+    let depths = Depths::new(c, starts);
+    match depths.least_for(conflicts, order, settle) {
+        None => Verdict::NoDecoder(find(c, starts, conflicts, letters)),
+        Some(w) => Verdict::Least(w),
     }
 }
 
@@ -71,9 +58,9 @@ fn checked(file: &[u8], order: Order, settle: usize, letters: &mut [u8]) -> Verd
     ensures { SaysOf order file.now settle result letters.old letters.new }
 {
     let c = Coder::from_checked(file);
-    let starts = starts::inner::start_states(c, settle);
+    let starts = starts::inner::start_states(&c, settle);
     let conflicts = setting::inner::different_letters();
-    verdict(c, starts, &conflicts, order, settle, letters)
+    verdict(&c, starts, &conflicts, order, settle, letters)
 }
 
 // The search in an order, where `others` says whether the lent buffers besides `letters` are long enough.
@@ -83,13 +70,9 @@ pub fn search(
     settle: usize,
     letters: &mut [u8],
     others: bool,
-) -> SearchResult
+) -> Result<Verdict, Refusal>
     ensures { SearchWith order file.now settle letters.old others result letters.new }
 {
-    let fits = enough(WANTED, letters.len(), others);
-    let k = refusal(file, settle, fits);
-    if k != 0 {
-        return SearchResult::Refused(k);
-    }
-    SearchResult::Found(checked(file, order, settle, letters))
+    refusal(file, settle, enough(WANTED, letters.len(), others))?;
+    Ok(checked(file, order, settle, letters))
 }

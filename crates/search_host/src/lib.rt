@@ -3,11 +3,10 @@
 
 ghost use Rattle.std.specs.Prelude.{◌≤◌, ◌≡◌, length};
 ghost use Rattle.layout.specs.Layout.{result_bytes, with_fields};
-ghost use Rattle.layout.specs.Host.{LaidOut, HasRoom};
-ghost use Rattle.search_host.specs.Laid.{verdict_fields, laid_search, SearchFromHost};
+ghost use Rattle.search_host.specs.Laid.{verdict_fields, SearchFromHost};
 
 use layout::inner::{put_fields, roomy};
-use search::{SearchResult, Verdict};
+use search::Verdict;
 use values::Order;
 
 // The fields of a verdict.
@@ -16,12 +15,10 @@ fn put_verdict(res: &mut [u8], verdict: Verdict)
     ensures { res.new ≡ with_fields res.old (verdict_fields verdict) }
 {
     match verdict {
-        Verdict::Least(w) => {
-            let numbers = [0, w.before, w.after];
-            put_fields(res, &numbers[..]);
-        }
-        Verdict::NoDecoder(p) => {
-            let numbers = [
+        Verdict::Least(w) => put_fields(res, &[0, w.before, w.after]),
+        Verdict::NoDecoder(p) => put_fields(
+            res,
+            &[
                 1,
                 p.s,
                 p.t,
@@ -29,23 +26,8 @@ fn put_verdict(res: &mut [u8], verdict: Verdict)
                 p.lead_in,
                 p.lead_out,
                 p.forward_loop,
-            ];
-            put_fields(res, &numbers[..]);
-        }
-    }
-}
-
-// The fields of a result: what is returned for it.
-fn put(own: SearchResult, res: &mut [u8]) -> usize
-    requires { HasRoom (laid_search own) res.old }
-    ensures { LaidOut (laid_search own) res.old result res.new }
-{
-    match own {
-        SearchResult::Refused(k) => k,
-        SearchResult::Found(verdict) => {
-            put_verdict(res, verdict);
-            0
-        }
+            ],
+        ),
     }
 }
 
@@ -55,6 +37,11 @@ pub fn search(file: &[u8], settle: usize, letters: &mut [u8], res: &mut [u8]) ->
     ensures { SearchFromHost file.now settle
         letters.old res.old result letters.new res.new }
 {
-    let own = search::inner::search(file, Order::DEFAULT, settle, letters, roomy(res.len()));
-    put(own, res)
+    match search::inner::search(file, Order::DEFAULT, settle, letters, roomy(res.len())) {
+        Ok(verdict) => {
+            put_verdict(res, verdict);
+            0
+        }
+        Err(refusal) => refusal.number(),
+    }
 }

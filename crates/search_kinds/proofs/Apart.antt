@@ -7,13 +7,10 @@ use Prim.Native.Nat.{ℕ, ◌+◌, ◌-◌, ◌*◌, ◌%◌, ◌^◌, ◌<◌}
 use native.Mathlib.Decide.{ℕ_discrete}
 use native.Mathlib.Omega.{arith}
 use lib.Bits.{bit_or, bit_and}
-use lib.ListN.{length, get_or, set, length-set}
-use lib.Seq.{get_or-set_same, get_or-set_other}
+use lib.ListN.{length, get_or}
 use Rattle.mealy.specs.Word.{Has, Holds}
 use Rattle.mealy.proofs.Words.{holds_map, holds_none, holds_shifted, holds_union, holds_both, holds_not, shifted, has_itself, has_alone}
-use Rattle.mealy.proofs.Members.{holds_member}
 use Rattle.coder.proofs.Refusals.{true_false}
-use Rattle.setting.specs.Words.{ConflictsOf}
 use Rattle.kinds.specs.Kinds.{DifferentKinds, DifferentWithin, DifferentCarried}
 use Rattle.search_kinds.specs.Letters.{OfKind, SameKind, ToldApart}
 
@@ -50,9 +47,6 @@ module _ (kind : ℕ → ℕ) (C : ℕ → Type 0) {i k : ℕ} (e : k ≡ kind i
       (λ j q. ((q.0, sym q.1.0 ∙ sym e), (q.0, λ z. q.1.2 (sym z))))
       (holds_both h (holds_not (holds_shifted {P = λ j. j ≡ i} i l refl (λ j z. z))))
 
-  pub same_none : (C k → ⊥) → Holds (λ j. (j < 16) × SameKind kind C i j) 0
-  same_none n = holds_none (λ j q. n (rw e q.1.1))
-
 pub other_held :
     (kind : ℕ → ℕ) {i k u : ℕ} → k ≡ kind i → Holds (OfKind kind k) u → Holds (λ j. (j < 16) × DifferentKinds kind i j) (65535 - u)
 other_held kind e h =
@@ -62,13 +56,6 @@ other_held kind e h =
     (holds_not h)
 
 module _ (kind : ℕ → ℕ) (C : ℕ → Type 0) {i u : ℕ} (h : Holds (λ j. (j < 16) × SameKind kind C i j) u) where
-  pub apart_held : Holds (λ j. (j < 16) × ToldApart false kind C i j) u
-  apart_held =
-      holds_map
-      (λ j q. (q.0, inl q.1))
-      (λ j q. elim q.1 [ inl s ↦ (q.0, s) | inr o ↦ absurd (true_false o.0 refl) ])
-      h
-
   pub across_held :
       {v : ℕ} → Holds (λ j. (j < 16) × DifferentKinds kind i j) v → Holds (λ j. (j < 16) × ToldApart true kind C i j) (bit_or u v)
   across_held o =
@@ -83,27 +70,6 @@ module _ (kind : ℕ → ℕ) (C : ℕ → Type 0) {i u : ℕ} (h : Holds (λ j.
 pub record WordsTo (D : ℕ → ℕ → Type 0) (k : ℕ) (words : List ℕ) : Type 0 where
   pub size : length words ≡ 16
   pub made : (i : ℕ) → i < k → Holds (λ j. (j < 16) × D i j) (get_or words i 0)
-
-module _ {D : ℕ → ℕ → Type 0} where
-  pub words_none : {words : List ℕ} → length words ≡ 16 → WordsTo D 0 words
-  words_none e = record { size = e; made = λ i l. absurd (omega arith) }
-
-  pub words_more :
-      {k v : ℕ} {words : List ℕ} → WordsTo D k words → k < 16 → Holds (λ j. (j < 16) × D k j) v → WordsTo D (k + 1) (set words k v)
-  words_more {k} {v} {words} w l h = record {
-    size = length-set words k v ∙ w.size;
-    made = λ i m. elim (ℕ_discrete i k) [
-      | yes e ↦ rw (e, get_or-set_same words k v 0 (omega (arith, w.size))) h
-      | no n ↦ rw (get_or-set_other words k i v 0 n) (w.made i (omega arith))
-    ];
-  }
-
-  pub words_all : {k : ℕ} {words : List ℕ} → k ≡ 16 → WordsTo D k words → ConflictsOf D words
-  words_all e w = record {
-    size = w.size;
-    conflict = λ i j l m c. (w.made i (omega arith)).has j (m, c);
-    conflict' = λ i j l m h. (holds_member (w.made i (omega arith)) j h).1;
-  }
 
 -- ---- which letters these are
 

@@ -21,11 +21,11 @@ use Rattle.kinds.proofs.CarriedKinds.{dec_carried}
 use Rattle.kinds.proofs.Reports.{cannot_or_found, found_set, found_sides}
 use Rattle.kind_list.specs.KindList.{kind_of}
 use Rattle.kind_list.proofs.KindLists.{ListAccepted}
-use Rattle.search_kinds.specs.Search.{search_kinds_refusal, KindsSaysOf, SearchKindsWith}
-use Rattle.search_kinds.specs.declared.KindsVerdict.{KindsVerdict}
-use Rattle.search_kinds.specs.declared.KindsVerdict.TheVariants.{Cannot, Told}
-use Rattle.search_kinds.specs.declared.KindsResult.{KindsResult}
-use Rattle.search_kinds.specs.declared.KindsResult.TheVariants.{Refused, Found}
+use Rattle.search_kinds.specs.Search.{search_kinds_refusal, told, KindsSaysOf, SearchKindsWith}
+use Rattle.search_kinds.specs.declared.Told.{Told}
+use Rattle.std.specs.Prelude.{Result, Ok, Option, Some, None}
+use Rattle.coder.specs.declared.refusal.Refusal.{Refusal}
+use Rattle.coder.specs.Refused.{Refused}
 use Rattle.search_kinds.proofs.Apart.{held_none, held_more, held_less}
 use Rattle.search_kinds.proofs.Reports.{search_kinds_accepted}
 
@@ -44,7 +44,7 @@ unfolding machine_of
 few_inputs f kinds a = (accepted f a.file).entries.limits.inputs_high
 
 -- for every accepted file and kind list, some report says what it is to say
-some_report : (f kinds : List ℕ) → ListAccepted f kinds → (v : KindsVerdict) × KindsSaysOf f kinds v
+some_report : (f kinds : List ℕ) → ListAccepted f kinds → (v : Option Told) × KindsSaysOf f kinds v
 some_report f kinds l =
     let a = accepted f l.file in
     let M = machine_of f in
@@ -56,20 +56,20 @@ some_report f kinds l =
     let u = some_word (dec_carried S closed start bounded kind) M.inputs (few_inputs f kinds l) in
     let set : CarriedSet S kind (Has u.0) = λ κ m. ((λ h. (holds_member u.1 κ h).1), λ c. u.1.has κ (m, c)) in
     elim (cannot_or_found S kind closed start bounded (is_order default_order)) [
-      | inl c ↦ (Cannot, c)
+      | inl c ↦ (None, c)
       | inr w ↦
           let g = found_set S kind l.below set w.2 in
           let s = found_sides S kind closed start bounded (is_order default_order) g in (
-            Told u.0 (window w.0 w.1 0),
+            Some (told u.0 (window w.0 w.1 0)),
             record { settle = refl; carried_are = u.1; least = g.least; before_small = s.0; after_small = s.1 },
           )
     ]
 
-pub search_kinds_exists : (f kinds : List ℕ) (others : Bool) → (r : KindsResult) × SearchKindsWith f kinds others r
+pub search_kinds_exists : (f kinds : List ℕ) (others : Bool) → (r : Result (Option Told) Refusal) × SearchKindsWith f kinds others r
 search_kinds_exists f kinds others = go (search_kinds_refusal f kinds others) refl
   where
-    go : (k : ℕ) → search_kinds_refusal f kinds others ≡ k → (r : KindsResult) × SearchKindsWith f kinds others r
+    go : (k : ℕ) → search_kinds_refusal f kinds others ≡ k → (r : Result (Option Told) Refusal) × SearchKindsWith f kinds others r
     go zero e =
         let v = some_report f kinds (search_kinds_accepted f kinds others e).list in
-        (Found v.0, rw e (record { verdict = v.0; is = refl; says = v.1 }))
+        (Ok v.0, rw e (record { verdict = v.0; is = refl; says = v.1 }))
     go (suc k) e = (Refused (suc k), rw e refl)

@@ -29,9 +29,8 @@ use Rattle.kind_list.specs.KindList.{kind_of, list_refusal}
 use Rattle.kind_list.proofs.KindLists.{ListAccepted, list_accepted}
 use Rattle.search_kinds.specs.Tries.{started}
 use Rattle.search_kinds.specs.Search.{search_kinds_refusal, ToldReport, KindsSays, KindsSaysOf, FoundKinds, SearchKindsPromise}
-use Rattle.search_kinds.specs.declared.KindsVerdict.{KindsVerdict}
-use Rattle.search_kinds.specs.declared.KindsVerdict.TheVariants.{Cannot, Told}
-use Rattle.search_kinds.specs.declared.KindsResult.TheVariants.{Found}
+use Rattle.search_kinds.specs.declared.Told.{Told}
+use Rattle.std.specs.Prelude.{Ok, Option, Some, None}
 
 -- ---- a call that is not refused
 
@@ -52,16 +51,16 @@ pub search_kinds_asked :
 search_kinds_asked f kinds others e = rw (search_kinds_accepted f kinds others e).fits at e
 
 -- an outcome that is a report: no number applies, and the report says what it is to say
-pub record ReportSays (f kinds : List ℕ) (v : KindsVerdict) : Type 0 where
+pub record ReportSays (f kinds : List ℕ) (v : Option Told) : Type 0 where
   pub accepted_call : SearchKindsAccepted f kinds true
   pub says : KindsSaysOf f kinds v
 
-pub report_says : (f kinds : List ℕ) (v : KindsVerdict) → SearchKindsPromise f kinds (Found v) → ReportSays f kinds v
+pub report_says : (f kinds : List ℕ) (v : Option Told) → SearchKindsPromise f kinds (Ok v) → ReportSays f kinds v
 report_says f kinds v = go (search_kinds_refusal f kinds true) refl
   where
-    go : (k : ℕ) → search_kinds_refusal f kinds true ≡ k → SearchKindsPromise f kinds (Found v) → ReportSays f kinds v
+    go : (k : ℕ) → search_kinds_refusal f kinds true ≡ k → SearchKindsPromise f kinds (Ok v) → ReportSays f kinds v
     go zero e h =
-        let q : FoundKinds f kinds (Found v) = rw e at h in
+        let q : FoundKinds f kinds (Ok v) = rw e at h in
         let d = q.is in
         let z : v ≡ q.verdict = cc in
         record { accepted_call = search_kinds_accepted f kinds true e; says = rw z q.says }
@@ -76,16 +75,16 @@ carried_same : {S T : Setting} → Same S T → (kind : ℕ → ℕ) (κ : ℕ) 
 carried_same e kind κ c = (c.0, c.1, works_same (same_telling e (DifferentWithin kind κ)) c.0 c.1 c.2)
 
 reports_same :
-    (R : Relation) {S T : Setting} → Same S T → S.M.states ≡ T.M.states → (kind : ℕ → ℕ) (v : KindsVerdict) →
+    (R : Relation) {S T : Setting} → Same S T → S.M.states ≡ T.M.states → (kind : ℕ → ℕ) (v : Option Told) →
     KindsSays R S kind v → KindsSays R T kind v
-reports_same R e n kind Cannot r = λ b a f. r b a (works_same (same_sym (same_telling e (DifferentKinds kind))) b a f)
-reports_same R {S} {T} e n kind (Told carried w) r =
+reports_same R e n kind None r = λ b a f. r b a (works_same (same_sym (same_telling e (DifferentKinds kind))) b a f)
+reports_same R {S} {T} e n kind (Some t) r =
     record {
       settle = r.settle;
       carried_are =
           holds_map (λ κ c. (rw e.inputs at c.0, carried_same e kind κ c.1))
           (λ κ c. (rw e.inputs c.0, carried_same (same_sym e) kind κ c.1)) r.carried_are;
-      least = least_same (same_telling e (DifferentCarried kind (Has carried))) R w.before w.after r.least;
+      least = least_same (same_telling e (DifferentCarried kind (Has t.carried))) R t.window.before t.window.after r.least;
       before_small = rw n at r.before_small;
       after_small = rw n at r.after_small;
     }
@@ -100,7 +99,7 @@ module _ {c : Coder} {f : List ℕ} (e : c ≡ coder_of f) (a : Accepted f) {sta
   started_closed = same_coder.closed
 
   pub says_same :
-      (kinds : List ℕ) (v : KindsVerdict) → KindsSays (relation_of default_order) (started c starts) (kind_of kinds) v →
+      (kinds : List ℕ) (v : Option Told) → KindsSays (relation_of default_order) (started c starts) (kind_of kinds) v →
       KindsSaysOf f kinds v
   says_same kinds v r =
       subst (λ (M : Machine). KindsSays (relation_of default_order) (after_letters M 0) (kind_of kinds) v) (coder_machine e a)

@@ -25,8 +25,7 @@ use Rattle.values.specs.declared.Window.{Window}
 use Rattle.fitting.specs.Answer.{greatest, answer_of}
 use Rattle.fitting.specs.declared.Answer.TheVariants as Answer
 use Rattle.least.specs.Report.{DepthsOf, LeastGiven}
-use Rattle.least.specs.declared.LeastWindow.{LeastWindow}
-use Rattle.least.specs.declared.LeastWindow.TheVariants.{None, Some}
+use Rattle.std.specs.Prelude.{Option, Some, None, is_some}
 use Rattle.kinds.specs.Kinds.{DifferentWithin, DifferentCarried}
 use Rattle.kinds.proofs.Telling.{single_carried}
 use Rattle.kinds.proofs.CarriedKinds.{settled_carried}
@@ -63,7 +62,7 @@ module _ (c : Coder) (sound : Sound c) {backs forwards : List (List ℕ)} where
       (λ i j l m. (are.conflict' i j (omega arith) (omega arith), are.conflict i j (omega arith) (omega arith)))
 
   pub tried_telling :
-      {D : ℕ → ℕ → Type 0} {conflicts : List ℕ} → ConflictsOf D conflicts → (r : LeastWindow) →
+      {D : ℕ → ℕ → Type 0} {conflicts : List ℕ} → ConflictsOf D conflicts → (r : Option Window) →
       LeastGiven (relation_of default_order) 0 c backs forwards conflicts r → LeastTold c backs forwards D r
   tried_telling {conflicts = conflicts} are None g starts d = λ b a f.
       works→unambiguous (worded (machine_of_coder c) starts conflicts) b a (works_same (same_sym (words_telling are starts d)) b a f)
@@ -78,12 +77,16 @@ module _ (c : Coder) (sound : Sound c) {backs forwards : List (List ℕ)} where
       }
 
   module _ {D E : ℕ → ℕ → Type 0} (f : (i j : ℕ) → D i j ↔ E i j) where
-    pub told_none : LeastTold c backs forwards D None → SomeTold c backs forwards E false
+    told_none : LeastTold c backs forwards D None → SomeTold c backs forwards E false
     told_none g starts d =
         judges_not (λ w. g starts d w.0 w.1 (works_same (same_sym (same_letters (λ i j l m. f i j) starts d)) w.0 w.1 w.2))
 
-    pub told_some : (w : Window) → LeastTold c backs forwards D (Some w) → SomeTold c backs forwards E true
+    told_some : (w : Window) → LeastTold c backs forwards D (Some w) → SomeTold c backs forwards E true
     told_some w g starts d = judges_yes (_, _, works_same (same_letters (λ i j l m. f i j) starts d) _ _ (g starts d).least.works)
+
+    pub told : (r : Option Window) → LeastTold c backs forwards D r → SomeTold c backs forwards E (is_some r)
+    told None g = told_none g
+    told (Some w) g = told_some w g
 
 -- ---- a kind of which no two letters differ
 
@@ -138,7 +141,7 @@ module _ (c : Coder) (sound : Sound c) (starts : ℕ) {backs forwards : List (Li
   module _ {D : ℕ → ℕ → Type 0} (u : ℕ) (same : (i j : ℕ) → D i j ↔ DifferentCarried kind (Has u) i j)
       (carried : CarriedGiven c backs forwards kind u) where
     pub reported :
-        (r : LeastWindow) → LeastTold c backs forwards D r → KindsSays (relation_of default_order) S kind (verdict_of u r)
+        (r : Option Window) → LeastTold c backs forwards D r → KindsSays (relation_of default_order) S kind (verdict_of u r)
     reported None t = λ b a f.
         let n = pairs c.states in
         let h = carried starts d in

@@ -1,29 +1,18 @@
 -- Tries on the tables of a coder: the least window that tells certain letters apart, and the carried kinds.
-use Rattle.std.specs.Prelude.{ℕ, ◌<◌, Bool, List, ◌≢◌}
+use Rattle.std.specs.Prelude.{ℕ, ◌<◌, Bool, List, ◌≢◌, Option, MatchOption}
 use Rattle.mealy.specs.Word.{Holds}
 use Rattle.mealy.specs.Setting.{Setting, ClosedOf}
 use Rattle.mealy.specs.Window.{Works}
 use Rattle.mealy.specs.Order.{Relation}
-use Rattle.coder.specs.Limits.{max_inputs}
 use Rattle.coder.specs.Refusal.{Judges}
 use Rattle.coder.specs.Table.{machine_of_coder, Sound}
 use Rattle.coder.specs.declared.inner.tables.Coder.{Coder}
 use Rattle.setting.specs.Words.{StartIn, started_in}
 use Rattle.values.specs.Order.{relation_of, default_order}
-use Rattle.least.specs.Report.{DepthsOf, LeastAsked, LeastReport}
-use Rattle.least.specs.declared.LeastWindow.{LeastWindow}
-use Rattle.least.specs.declared.LeastWindow.TheVariants.{None, Some}
+use Rattle.values.specs.declared.Window.{Window}
+use Rattle.least.specs.Report.{DepthsOf, LeastReport}
 use Rattle.kinds.specs.Kinds.{SomeWindow, Carried}
 use Rattle.kind_list.specs.KindList.{KindsLow}
-
--- What is asked: the chains of the entries by output letter and depths, and kinds that are bits of a word.
-pub record KindsAsked (c : Coder) (last previous : List ℕ) (backs forwards : List (List ℕ)) (kinds : List ℕ) : Type 0 where
-  pub product : LeastAsked c last previous backs forwards
-  pub low : KindsLow kinds
-
-pub record KindAsked (c : Coder) (last previous : List ℕ) (backs forwards : List (List ℕ)) (kinds : List ℕ) (k : ℕ) : Type 0 where
-  pub all : KindsAsked c last previous backs forwards kinds
-  pub kind_low : k < max_inputs
 
 pub record FindAsked (c : Coder) (starts : ℕ) (kinds : List ℕ) : Type 0 where
   pub sound : Sound c
@@ -33,11 +22,10 @@ pub record FindAsked (c : Coder) (starts : ℕ) (kinds : List ℕ) : Type 0 wher
 -- ---- what is given, for every word of start states that the depths are of
 
 -- no window works, whatever its sides, or the first in R, with settle count 0
-abbrev pub TriedSays : Relation → Setting → LeastWindow → Type 0
-TriedSays R S None = (b a : ℕ) → Works S b a → ⊥
-TriedSays R S (Some w) = LeastReport R 0 S w
+abbrev pub TriedSays : Relation → Setting → Option Window → Type 0
+TriedSays R S r = MatchOption r ((b a : ℕ) → Works S b a → ⊥) (LeastReport R 0 S)
 
-abbrev pub LeastTold : Coder → List (List ℕ) → List (List ℕ) → (ℕ → ℕ → Type 0) → LeastWindow → Type 0
+abbrev pub LeastTold : Coder → List (List ℕ) → List (List ℕ) → (ℕ → ℕ → Type 0) → Option Window → Type 0
 LeastTold c backs forwards D r =
     (starts : ℕ) → DepthsOf c starts backs forwards → TriedSays (relation_of default_order) (started_in c starts D) r
 

@@ -2,80 +2,58 @@
 ghost use Rattle.std.specs.Prelude.{◌≡◌, true};
 ghost use Rattle.values.specs.Order.{relation_of, default_order};
 ghost use Rattle.kind_list.specs.KindList.{kind_of};
+ghost use Rattle.coder.specs.Refused.{number_in};
 ghost use Rattle.search_kinds.specs.Tries.{started, FindAsked};
-ghost use Rattle.search_kinds.specs.Search.{search_kinds_refusal, verdict_of, KindsSays, KindsSaysOf, SearchKindsWith};
+ghost use Rattle.search_kinds.specs.Search.{search_kinds_refusal, KindsSays, KindsSaysOf, SearchKindsWith};
 
+use crate::Told;
 use crate::inner::tries::{carried_kinds, least_window};
-use crate::{KindsResult, KindsVerdict};
 use coder::inner::tables::Coder;
-use least::LeastWindow;
+use coder::refusal::Refusal;
+use least::inner::Depths;
 
 pub mod letters; // letters.rt: the letters that a window for kinds has to tell apart, as words
 pub mod tries; // tries.rt: the carried kinds and the first window, from the depths of the product machine
 
-// The refusal of a search for kinds, or 0. `fits` says whether all lent buffers are long enough.
-fn refusal(file: &[u8], kinds: &[u8], fits: bool) -> usize
-    ensures { result ≡ search_kinds_refusal file.now kinds.now fits }
+// The refusal of a search for kinds. `fits` says whether all lent buffers are long enough.
+#[tactic(auto, unfolding(crate::specs::Search::search_kinds_refusal))]
+fn refusal(file: &[u8], kinds: &[u8], fits: bool) -> Result<(), Refusal>
+    ensures { number_in result ≡ search_kinds_refusal file.now kinds.now fits }
 {
-    let k = kind_list::inner::refusal(file, kinds);
-    if k != 0 {
-        return k;
+    kind_list::inner::refusal(file, kinds)?;
+    if fits {
+        Ok(())
+    } else {
+        Err(Refusal::ShortBuffer)
     }
-    if fits { 0 } else { 11 }
 }
 
-// What is reported from the word of the carried kinds and the least window for them: where there is none for these, there is none for
+// The report on a coder whose runs start in the states of the word. Where there is no window for the carried kinds, there is none for
 // kinds.
-fn verdict_of(carried: u16, least: LeastWindow) -> KindsVerdict
-    ensures { result ≡ verdict_of carried least }
+fn find(c: &Coder, starts: u16, kinds: &[u8]) -> Option<Told>
+    requires { FindAsked c.now starts kinds.now }
+    ensures { KindsSays (relation_of default_order) (started c.now starts) (kind_of kinds.now) result }
 {
-    match least {
-        LeastWindow::None => KindsVerdict::Cannot,
-        LeastWindow::Some(window) => KindsVerdict::Told { carried, window },
-    }
-}
-
-// The report on a coder whose runs start in the states of the word.
-fn find(c: Coder, starts: u16, kinds: &[u8]) -> KindsVerdict
-    requires { FindAsked c starts kinds.now }
-    ensures { KindsSays (relation_of default_order) (started c starts) (kind_of kinds.now) result }
-{
-    let states = c.states;
-    let inputs = c.inputs;
-    let backs = product::inner::back(c, starts);
-    let forwards = product::inner::forward(c, starts);
-    let chain = chains::inner::by_key(&c.output, states, inputs);
-    let carried = carried_kinds(c, &chain.last, &chain.previous, &backs, &forwards, kinds);
-    let least = least_window(
-        c,
-        &chain.last,
-        &chain.previous,
-        &backs,
-        &forwards,
-        kinds,
-        true,
-        carried,
-    );
-    verdict_of(carried, least)
+    let depths = Depths::new(c, starts);
+    let carried = carried_kinds(&depths, kinds);
+    let window = least_window(&depths, kinds, true, carried)?;
+    Some(Told { carried, window })
 }
 
 // The report on a file that is not refused.
-fn checked(file: &[u8], kinds: &[u8]) -> KindsVerdict
+fn checked(file: &[u8], kinds: &[u8]) -> Option<Told>
     requires { search_kinds_refusal file.now kinds.now true ≡ 0 }
     ensures { KindsSaysOf file.now kinds.now result }
 {
     let c = Coder::from_checked(file);
-    let starts = starts::inner::start_states(c, 0);
-    find(c, starts, kinds)
+    let starts = starts::inner::start_states(&c, 0);
+    find(&c, starts, kinds)
 }
 
 // The search for kinds, where `others` says whether the lent buffers are long enough: it has none of its own.
-pub fn search_kinds(file: &[u8], kinds: &[u8], others: bool) -> KindsResult
+pub fn search_kinds(file: &[u8], kinds: &[u8], others: bool) -> Result<Option<Told>, Refusal>
     ensures { SearchKindsWith file.now kinds.now others result }
 {
-    let k = refusal(file, kinds, others);
-    if k != 0 {
-        return KindsResult::Refused(k);
-    }
-    KindsResult::Found(checked(file, kinds))
+    refusal(file, kinds, others)?;
+    Ok(checked(file, kinds))
 }

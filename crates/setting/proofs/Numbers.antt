@@ -6,12 +6,12 @@ use mathlib.Core.Logic.{◌≢◌}
 use Prim.Native.Nat.{ℕ, ◌-◌, ◌/◌, ◌%◌, ◌^◌, ◌<◌}
 use native.Mathlib.Omega.{arith}
 use lib.Dec.{eqb}
+use lib.ListN.{length, get_or}
 use borrow.Author.Tests.{eqb-true, eq-eqb, ne_eqb}
 use Rattle.mealy.specs.Word.{Has, Holds}
 use Rattle.mealy.proofs.Words.{full_has}
 use Rattle.coder.specs.Refusal.{all_below}
 use Rattle.coder.proofs.Refusals.{all_at}
-use Rattle.coder.proofs.Fill.{Filled}
 use Rattle.setting.specs.Words.{ConflictsOf}
 
 -- ---- all numbers below 16
@@ -44,12 +44,12 @@ module _ (i x : ℕ) (l : i < 16) (m : x < 16) where
   pub but_has : Has (65535 - 2 ^ i) x → i ≢ x
   but_has h e = let z : (65535 - 2 ^ i) / 2 ^ x % 2 ≡ 0 = rw (eq-eqb i x e) at bit_but in omega arith
 
--- ---- all of them, as they are made
+-- ---- all of them, in an array
 
-pub made_all : {s words : List ℕ} → Filled 16 (λ i. 65535 - 2 ^ i) s 16 words → ConflictsOf (λ i j. i ≢ j) words
-made_all a =
+pub made_all : {words : List ℕ} → length words ≡ 16 → ((i : ℕ) → i < 16 → get_or words i 0 ≡ 65535 - 2 ^ i) → ConflictsOf (λ i j. i ≢ j) words
+made_all size is =
     record {
-      size = a.size;
-      conflict = λ i j l m n. rw (a.is i l) (has_but i j l m n);
-      conflict' = λ i j l m h. but_has i j l m (rw (a.is i l) at h);
+      size = size;
+      conflict = λ i j l m n. rw (is i l) (has_but i j l m n);
+      conflict' = λ i j l m h. but_has i j l m (rw (is i l) at h);
     }

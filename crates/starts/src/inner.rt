@@ -5,21 +5,17 @@ ghost use Rattle.fitting.specs.Tables.{Words};
 ghost use Rattle.setting.specs.Words.{setting_of_coder};
 ghost use Rattle.starts.specs.Steps.{StepsOf, ClosureOf, AfterOf};
 
-use chains::inner::parts;
+use chains::inner::place_states;
 use coder::inner::tables::Coder;
 use fitting::inner::sets::image;
 use fitting::inner::tables::by_output;
 
 // For each state the states that its entries lead to, whatever their letters: with output letter 0 for all of them, the word at place s.
-fn steps(c: Coder) -> [u16; 1024]
-    requires { Sound c }
-    ensures { StepsOf (machine_of_coder c) result }
+fn steps(c: &Coder) -> [u16; 1024]
+    requires { Sound c.now }
+    ensures { StepsOf (machine_of_coder c.now) result }
 {
-    let own = parts(false);
-    let zeros = [0u8; 256];
-    let states = c.states;
-    let inputs = c.inputs;
-    by_output(&own, &c.next, &zeros, states, inputs)
+    by_output(&place_states(), &c.next, &[0u8; 256], c.states, c.inputs)
 }
 
 // State 0 and all states that these steps lead to from it. With N states this takes N - 1 steps at most.
@@ -28,14 +24,12 @@ fn closure(words: &[u16; 1024], states: usize) -> u16
     ensures { ClosureOf words.now states result }
 {
     let mut set = 1u16;
-    let mut k = 1;
-    while k < states {
+    for _ in 1..states {
         let more = set | image(words, 0, set);
         if more == set {
             return set;
         }
         set = more;
-        k += 1;
     }
     set
 }
@@ -46,22 +40,20 @@ fn after(words: &[u16; 1024], reachable: u16, settle: usize) -> u16
     ensures { AfterOf words.now reachable settle result }
 {
     let mut to = reachable;
-    let mut k = 0;
-    while k < settle {
+    for _ in 0..settle {
         let next = image(words, 0, to);
         if next == to {
             return to;
         }
         to = next;
-        k += 1;
     }
     to
 }
 
 // The start states of a coder for a settle count: where that many letters lead from its reachable states.
-pub fn start_states(c: Coder, settle: usize) -> u16
-    requires { Sound c }
-    ensures { Holds (setting_of_coder c settle).Start result }
+pub fn start_states(c: &Coder, settle: usize) -> u16
+    requires { Sound c.now }
+    ensures { Holds (setting_of_coder c.now settle).Start result }
 {
     let words = steps(c);
     let reachable = closure(&words, c.states);

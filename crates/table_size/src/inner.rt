@@ -27,10 +27,8 @@ pub fn size(outputs: usize, n: usize) -> usize
     ensures { result ≡ outputs ^ n }
 {
     let mut size: usize = 1;
-    let mut i = 0;
-    while i < n {
+    for _ in 0..n {
         size *= outputs;
-        i += 1;
     }
     size
 }

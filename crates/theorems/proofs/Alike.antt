@@ -17,15 +17,12 @@ use Rattle.coder.proofs.Refusals.{upon_map}
 use Rattle.values.specs.Window.{window, size}
 use Rattle.values.specs.Order.{relation_of, default_order}
 use Rattle.values.specs.declared.Order.{Order}
-use Rattle.values.specs.declared.CountResult.{CountResult}
 use Rattle.fitting.specs.Answer.{meaning}
 use Rattle.fitting.proofs.Answers.{byte_same}
 use Rattle.search.specs.Search.{search_refusal, search_refusal_in, SaysOf, FoundVerdict, RefusedSearch, SearchWith}
 use Rattle.search_host.specs.Laid.{laid_search, SearchFromHost}
 use Rattle.search.specs.declared.Verdict.{Verdict}
 use Rattle.search.specs.declared.Verdict.TheVariants.{Least, NoDecoder}
-use Rattle.search.specs.declared.SearchResult.{SearchResult}
-use Rattle.search.specs.declared.SearchResult.TheVariants.{Refused, Found}
 use Rattle.search.proofs.Files.{says_same}
 use Rattle.search.proofs.Determined as search
 use Rattle.decoder_refusal.specs.Refusal.{limits_refusal, window_refusal, string_refusal, table_size, table_refusal, table_refusal_in}
@@ -33,7 +30,6 @@ use Rattle.decoder.specs.Written.{Written}
 use Rattle.decoder.specs.Count.{CountPromise}
 use Rattle.decoder.specs.Window.{AnsweredRight}
 use Rattle.decoder.specs.Table.{EntryOf}
-use Rattle.decoder.specs.declared.WindowResult.TheVariants as answer
 use Rattle.decoder.proofs.Writing.{written_map}
 use Rattle.decoder.proofs.Determined as decoder
 use Rattle.decoder_host.specs.Laid.{laid_window}
@@ -41,6 +37,9 @@ use Rattle.layout.specs.Host.{laid_count}
 use Rattle.layout.proofs.Hosting.{same_host, same_host_buffer}
 use Rattle.theorems.specs.SameAnswers.{SameAnswers, SameAnswersFromC}
 use Rattle.theorems.specs.SettleCounts.{verdict_with, result_with}
+use Rattle.std.specs.Prelude.{Result, Ok, Err}
+use Rattle.coder.specs.declared.refusal.Refusal.{Refusal}
+use Rattle.coder.specs.Refused.{Refused}
 
 -- Calls on f with settle count p and on f' with p' are judged alike: by the file and the settle count, and by settings that say the same.
 pub record Alike (f f' : List ℕ) (p p' : ℕ) : Type 0 where
@@ -54,7 +53,7 @@ pub record Alike (f f' : List ℕ) (p p' : ℕ) : Type 0 where
 -- ---- from one name of a refusal to another
 
 count_map :
-    {k k' n n' : ℕ} {Q Q' : ℕ → ℕ → Type 0} {before after : List ℕ} {r : CountResult} → k ≡ k' → n ≡ n' →
+    {k k' n n' : ℕ} {Q Q' : ℕ → ℕ → Type 0} {before after : List ℕ} {r : Result ℕ Refusal} → k ≡ k' → n ≡ n' →
     ((j v : ℕ) → Q j v → Q' j v) → CountPromise k n Q before r after → CountPromise k' n' Q' before r after
 count_map {n = n} {Q = Q} {Q' = Q'} {before = before} {after = after} e d g p =
     record {
@@ -66,10 +65,10 @@ count_map {n = n} {Q = Q} {Q' = Q'} {before = before} {after = after} e d g p =
     }
 
 -- the settle count of a window is not among the fields
-laid_with : (p : ℕ) (r : SearchResult) → laid_search r ≡ laid_search (result_with p r)
-laid_with p (Refused k) = refl
-laid_with p (Found (Least w)) = refl
-laid_with p (Found (NoDecoder q)) = refl
+laid_with : (p : ℕ) (r : Result Verdict Refusal) → laid_search r ≡ laid_search (result_with p r)
+laid_with p (Err e) = refl
+laid_with p (Ok (Least w)) = refl
+laid_with p (Ok (NoDecoder q)) = refl
 
 module _ {f f' : List ℕ} {p p' : ℕ} (h : Alike f f' p p') where
   -- ---- the refusals
@@ -128,7 +127,7 @@ module _ {f f' : List ℕ} {p p' : ℕ} (h : Alike f f' p p') where
       record { none = t.none; first = t.first; turned = t.turned; size = t.size; rest = t.rest }
 
   search_with :
-      (o : Order) (before after : List ℕ) (others : Bool) (r : SearchResult) → SearchWith o f p before others r after →
+      (o : Order) (before after : List ℕ) (others : Bool) (r : Result Verdict Refusal) → SearchWith o f p before others r after →
       SearchWith o f' p' before others (result_with p' r) after
   search_with o before after others r s =
       let n = length before in
@@ -150,7 +149,7 @@ module _ {f f' : List ℕ} {p p' : ℕ} (h : Alike f f' p p') where
   -- ---- the outcomes
 
   pub search_alike :
-      (o : Order) (before : List ℕ) (others : Bool) (r r' : SearchResult) (after after' : List ℕ) → SearchWith o f p before others r after →
+      (o : Order) (before : List ℕ) (others : Bool) (r r' : Result Verdict Refusal) (after after' : List ℕ) → SearchWith o f p before others r after →
       SearchWith o f' p' before others r' after' → (result_with p' r ≡ r') × (after ≡ after')
   search_alike o before others r r' after after' s =
       search.search_determined o f' p' before others (result_with p' r) r' after after' (search_with o before after others r s)
@@ -169,7 +168,7 @@ module _ {f f' : List ℕ} {p p' : ℕ} (h : Alike f f' p p') where
       record {
         window = λ b a received others r r' x y.
             decoder.window_determined f' (window b a p') received others r r'
-            (upon_map (λ k. r ≡ answer.Refused k) (AnsweredRight f (window b a p) received r)
+            (upon_map (λ k. r ≡ Refused k) (AnsweredRight f (window b a p) received r)
             (AnsweredRight f' (window b a p') received r) (window_number b a received others)
             (λ z g.
             record {

@@ -1,5 +1,5 @@
 -- A window that was answered, by the library's own call and from C, and what a host reads of its answer.
-use mathlib.Core.Path.{◌≡◌, refl}
+use mathlib.Core.Path.{◌≡◌, refl, sym}
 use mathlib.Core.Bool.{true}
 use mathlib.Core.List.{List, [], ◌∷◌}
 use Prim.Native.Nat.{ℕ, zero, suc, ◌≤◌, ◌<◌}
@@ -19,14 +19,16 @@ use Rattle.fitting.specs.declared.Answer.TheVariants.{Letter, None, Several}
 use Rattle.decoder_refusal.specs.Refusal.{window_refusal}
 use Rattle.decoder_refusal.proofs.Accepting.{WindowAccepted, window_accepted}
 use Rattle.decoder.specs.Window.{window_setting, AnsweredRight, WindowWith, WindowPromise}
-use Rattle.decoder.specs.declared.WindowResult.{WindowResult}
-use Rattle.decoder.specs.declared.WindowResult.TheVariants.{Refused, Answered}
 use Rattle.decoder_host.specs.Laid.{answer_fields, laid_window, WindowFromHost}
 use Rattle.decoder_host.proofs.Hosting.{window_enough}
 use Rattle.layout.specs.Layout.{with_fields, field_at}
 use Rattle.layout.specs.Host.{LaidOut}
 use Rattle.layout.proofs.Reading.{field_at_lem}
 use Rattle.layout.proofs.Hosting.{answered_host}
+use Rattle.std.specs.Prelude.{Result, Ok, Err}
+use Rattle.coder.specs.declared.refusal.Refusal.{Refusal}
+use Rattle.coder.specs.Refused.{Refused}
+use Rattle.coder.proofs.Refused.{number_some}
 
 -- it was not refused, and the answer is right
 pub record AnsweredBy (f : List ℕ) (w : Window) (received : List ℕ) (v : Answer) : Type 0 where
@@ -34,12 +36,12 @@ pub record AnsweredBy (f : List ℕ) (w : Window) (received : List ℕ) (v : Ans
   pub right : Answers (window_setting f w) received w.before (meaning v)
 
 pub window_answered :
-    (f : List ℕ) (w : Window) (received : List ℕ) (v : Answer) → WindowPromise f w received (Answered v) → AnsweredBy f w received v
+    (f : List ℕ) (w : Window) (received : List ℕ) (v : Answer) → WindowPromise f w received (Ok v) → AnsweredBy f w received v
 window_answered f w received v = go (window_refusal f w received true) refl
   where
     go :
         (k : ℕ) → window_refusal f w received true ≡ k →
-        upon k (λ j. Answered v ≡ Refused j) (AnsweredRight f w received (Answered v)) → AnsweredBy f w received v
+        upon k (λ j. Ok v ≡ Refused j) (AnsweredRight f w received (Ok v)) → AnsweredBy f w received v
     go zero e p =
         let d = p.is in
         let q : v ≡ p.answer = cc in
@@ -51,7 +53,7 @@ window_answered f w received v = go (window_refusal f w received true) refl
 -- a call that returned 0 has an answer that the own call promises, in the fields
 pub record AnsweredFromC (f : List ℕ) (w : Window) (received result result' : List ℕ) : Type 0 where
   pub answer : Answer
-  pub promised : WindowPromise f w received (Answered answer)
+  pub promised : WindowPromise f w received (Ok answer)
   pub fields : result' ≡ with_fields result (answer_fields answer)
 
 pub answered_from_C :
@@ -63,14 +65,11 @@ answered_from_C f w received result result' h =
     go g.own (window_refusal f w received true) g.promised g.promised g.out
   where
     go :
-        (own : WindowResult) (k : ℕ) → upon k (λ j. own ≡ Refused j) (AnsweredRight f w received own) → WindowPromise f w received own →
+        (own : Result Answer Refusal) (k : ℕ) → upon k (λ j. own ≡ Refused j) (AnsweredRight f w received own) → WindowPromise f w received own →
         LaidOut (laid_window own) result 0 result' → AnsweredFromC f w received result result'
-    go (Answered v) k q p out = record { answer = v; promised = p; fields = out.fields }
-    go (Refused j) zero q p out = let d = q.is in let z : ◌≡◌ {A = ℕ} 0 1 = cc in absurd (omega arith)
-    go (Refused j) (suc k) q p out =
-        let e = out.number in
-        let z : j ≡ suc k = cc in
-        absurd (omega arith)
+    go (Ok v) k q p out = record { answer = v; promised = p; fields = out.fields }
+    go (Err e) zero q p out = let d = q.is in let z : ◌≡◌ {A = ℕ} 0 1 = cc in absurd (omega arith)
+    go (Err e) (suc k) q p out = absurd (number_some e (sym out.number))
 
 inputs_few : (f : List ℕ) → file_refusal f ≡ 0 → (machine_of f).inputs ≤ 16
 unfolding machine_of

@@ -18,15 +18,13 @@ use Rattle.mealy.proofs.RunParts.{length_outs}
 use Rattle.mealy.proofs.Indices.{length_window}
 use Rattle.coder.specs.Refusal.{upon, answer}
 use Rattle.coder.specs.File.{entries_of, file_refusal, outputs_of, machine_of}
+use Rattle.running.proofs.Determined.{same_count, same_end}
 use Rattle.running.specs.Run.{run_refusal_in, RunPromise}
-use Rattle.running.specs.declared.RunResult as run_result
 use Rattle.values.specs.Window.{size}
 use Rattle.values.specs.declared.Window.{Window}
 use Rattle.values.specs.Order.{relation_of, default_order}
 use Rattle.values.specs.declared.Order.{Order}
 use Rattle.values.specs.declared.Order.TheVariants.{LeastLookahead, FewestLetters}
-use Rattle.values.specs.declared.CountResult.{CountResult}
-use Rattle.values.specs.declared.CountResult as count_result
 use Rattle.fitting.specs.Answer.{meaning, RightByte}
 use Rattle.fitting.specs.declared.Answer.{Answer}
 use Rattle.decoder.specs.Written.{Written}
@@ -34,9 +32,6 @@ use Rattle.decoder.specs.Count.{CountPromise}
 use Rattle.decoder.specs.Window.{window_setting}
 use Rattle.decoder_host.specs.Laid.{WindowFromHost}
 use Rattle.search.specs.Search.{search_refusal_in, SaysOf, RefusedSearch, SearchPromise}
-use Rattle.search.specs.declared.SearchResult.{SearchResult}
-use Rattle.search.specs.declared.SearchResult as search_result
-use Rattle.search.specs.declared.SearchResult.TheVariants.{Found}
 use Rattle.search.specs.declared.Verdict.{Verdict}
 use Rattle.search.specs.declared.Verdict.TheVariants.{Least, NoDecoder}
 use Rattle.search.proofs.Determined.{found, no_decoder_exactly}
@@ -55,6 +50,10 @@ use Rattle.theorems.proofs.Answered.{AnsweredBy, window_answered, answered_from_
 use Rattle.theorems.proofs.HostReads.{search_found}
 use Rattle.theorems.proofs.RoundTrip.{round_trip}
 use Rattle.theorems.proofs.HostRoundTrip.{host_round_trip}
+use Rattle.std.specs.Prelude.{Result, Ok}
+use Rattle.coder.specs.declared.refusal.Refusal.{Refusal}
+use Rattle.coder.specs.Refused.{Refused}
+use Rattle.running.specs.Run.{run_end}
 
 -- ---- from a promise to what holds upon its refusal
 
@@ -73,9 +72,9 @@ both_answers zero refused done stays new e d = (e, d)
 both_answers (suc k) refused done stays new e d = (e, d)
 
 count_upon :
-    (k n : ℕ) (Q : ℕ → ℕ → Type 0) (before : List ℕ) (r : CountResult) (after : List ℕ) → CountPromise k n Q before r after →
-    upon k (λ j. (r ≡ count_result.TheVariants.Refused j) × (after ≡ before))
-    ((r ≡ count_result.TheVariants.Done n) × Written Q n before after)
+    (k n : ℕ) (Q : ℕ → ℕ → Type 0) (before : List ℕ) (r : Result ℕ Refusal) (after : List ℕ) → CountPromise k n Q before r after →
+    upon k (λ j. (r ≡ Refused j) × (after ≡ before))
+    ((r ≡ Ok n) × Written Q n before after)
 count_upon zero n Q before r after p = (p.result, p.bytes)
 count_upon (suc k) n Q before r after p = (p.result, p.bytes)
 
@@ -87,9 +86,9 @@ entries_upon f file place part zero b e o = (b, e, o)
 entries_upon f file place part (suc k) b e o = b
 
 search_upon :
-    (k : ℕ) (Answered : Type 0) (r : SearchResult) (before after : List ℕ) →
+    (k : ℕ) (Answered : Type 0) (r : Result Verdict Refusal) (before after : List ℕ) →
     upon k (λ j. RefusedSearch j r before after) Answered →
-    upon k (λ j. (r ≡ search_result.TheVariants.Refused j) × (after ≡ before)) Answered
+    upon k (λ j. (r ≡ Refused j) × (after ≡ before)) Answered
 search_upon zero Answered r before after p = p
 search_upon (suc k) Answered r before after p = (p.is, p.stays)
 
@@ -122,7 +121,7 @@ demand_1 = record {
 
 run_done :
     (f : List ℕ) (s : ℕ) (xs before : List ℕ) (n e : ℕ) (after : List ℕ) →
-    RunPromise f s xs before (run_result.TheVariants.Done n e) after →
+    RunPromise f s xs before (Ok (run_end n e)) after →
     (n ≡ length xs) × (e ≡ end (machine_of f) s xs) × (take n after ≡ outs (machine_of f) s xs)
 run_done f s xs before n e after p = go (run_refusal_in f s xs (length before) true) p.result p.bytes
   where
@@ -131,13 +130,13 @@ run_done f s xs before n e after p = go (run_refusal_in f s xs (length before) t
 
     go :
         (k : ℕ) →
-        run_result.TheVariants.Done n e ≡
-        answer k (λ j. run_result.TheVariants.Refused j) (run_result.TheVariants.Done (length xs) (end (machine_of f) s xs)) →
+        Ok (run_end n e) ≡
+        answer k (λ j. Refused j) (Ok (run_end (length xs) (end (machine_of f) s xs))) →
         after ≡ answer k (λ j. before) (o ++ drop (length xs) before) →
         (n ≡ length xs) × (e ≡ end (machine_of f) s xs) × (take n after ≡ o)
     go zero d b =
-        let q : n ≡ length xs = cc in
-        (q, (cc), rw (b, q) (take_at o (drop (length xs) before) (length xs) (length_outs (machine_of f) s xs)))
+        let q : n ≡ length xs = same_count d in
+        (q, same_end d, rw (b, q) (take_at o (drop (length xs) before) (length xs) (length_outs (machine_of f) s xs)))
     go (suc k) d b = let z : ◌≡◌ {A = ℕ} 0 1 = cc in absurd (omega arith)
 
 bytes_said : (x : theory.Answer) → byte_of x ≡ byte_said x
@@ -217,7 +216,7 @@ no_later_said FewestLetters w b a r = (r.first, r.second)
 no_later_said LeastLookahead w b a r = (r.first, r.second)
 
 demanded :
-    (o : Order) (f : List ℕ) (p : ℕ) (before : List ℕ) (v : Verdict) (after : List ℕ) → SearchPromise o f p before (Found v) after →
+    (o : Order) (f : List ℕ) (p : ℕ) (before : List ℕ) (v : Verdict) (after : List ℕ) → SearchPromise o f p before (Ok v) after →
     Demanded o f p v after
 demanded o f p before v after h =
     let says : SaysOf o f p v before after = (found o f p before v after h).says in

@@ -1,7 +1,7 @@
 -- Reader and writer are inverses, and each coder within the limits that names its whole alphabet has one file.
 use mathlib.Core.Path.{◌≡◌, refl, sym, ap, subst, ◌∙◌}
 use mathlib.Core.Bool.{true}
-use mathlib.Core.List.{List, []}
+use mathlib.Core.List.{List, [], ◌∷◌}
 use Prim.Native.Nat.{ℕ, zero, suc, ◌≤◌}
 use native.Mathlib.Omega.{arith}
 use lib.ListN.{length, take, drop}
@@ -10,13 +10,9 @@ use Rattle.mealy.specs.Machine.{Letters}
 use Rattle.coder.specs.Refusal.{answer}
 use Rattle.coder.specs.File.{states_of, inputs_of, outputs_of, entries_of, file_of, entries_refusal, file_refusal}
 use Rattle.reader.specs.Read.{header_of, part_of}
-use Rattle.reader.specs.declared.Header as header
 use Rattle.reader.specs.declared.Header.{Header}
-use Rattle.reader.specs.declared.Header.TheVariants.{Counts}
 use Rattle.coder.proofs.Accepted.{entries_accepted, entries_high, coder_accepted, file_entries}
 use Rattle.coder.proofs.Inverse.{read_written, written_read, file_bytes}
-use Rattle.values.specs.declared.CountResult.{CountResult}
-use Rattle.values.specs.declared.CountResult.TheVariants.{Refused, Done}
 use Rattle.placing.specs.Placed.{with_front}
 use Rattle.writer.specs.Write.{write_refusal_in, FilePromise, WroteFile, WriteWith, WritePromise}
 use Rattle.writer_host.specs.Laid.{WriteFromHost}
@@ -24,10 +20,14 @@ use Rattle.writer.proofs.Writing.{length_file, write_accepted, write_given}
 use Rattle.writer_host.proofs.Hosting.{write_others}
 use Rattle.layout.specs.Layout.{result_bytes, field_at}
 use Rattle.layout.specs.Host.{laid_count}
-use Rattle.layout.proofs.Hosting.{not_refused, from_host, answered_host}
+use Rattle.layout.proofs.Hosting.{no_refusal, from_host, answered_host}
 use Rattle.theorems.specs.Files.{Read, ReadsBack, WrittenRead, WrittenReadFromC, WritesBack, OneFile, ReaderAndWriter}
 use Rattle.theorems.specs.RoundTrip.{FieldHolds}
 use Rattle.theorems.proofs.HostReads.{first_read}
+use Rattle.std.specs.Prelude.{Result, Ok, Err}
+use Rattle.coder.specs.declared.refusal.Refusal.{Refusal}
+use Rattle.coder.specs.Refused.{Refused}
+use Rattle.reader.specs.Read.{header}
 
 -- ---- the file of counts and entries within the limits
 
@@ -38,17 +38,29 @@ record HasCounts (f : List ℕ) (n i o : ℕ) : Type 0 where
   inputs : inputs_of f ≡ i
   outputs : outputs_of f ≡ o
 
-has_counts : (f : List ℕ) (n i o : ℕ) → header_of f ≡ Counts n i o → HasCounts f n i o
+abbrev states_in : Result Header Refusal → ℕ
+states_in (Ok h) = h.states
+states_in (Err e) = 0
+
+abbrev inputs_in : Result Header Refusal → ℕ
+inputs_in (Ok h) = h.inputs
+inputs_in (Err e) = 0
+
+abbrev outputs_in : Result Header Refusal → ℕ
+outputs_in (Ok h) = h.outputs
+outputs_in (Err e) = 0
+
+has_counts : (f : List ℕ) (n i o : ℕ) → header_of f ≡ Ok (header n i o) → HasCounts f n i o
 has_counts f n i o = go (file_refusal f) refl
   where
     go :
         (k : ℕ) → file_refusal f ≡ k →
-        answer k (λ j. header.TheVariants.Refused j) (Counts (states_of f) (inputs_of f) (outputs_of f)) ≡ Counts n i o → HasCounts f n i o
-    go zero e d = record { none = e; states = cc; inputs = cc; outputs = cc }
+        answer k (λ j. Refused j) (Ok (header (states_of f) (inputs_of f) (outputs_of f))) ≡ Ok (header n i o) → HasCounts f n i o
+    go zero e d = record { none = e; states = ap states_in d; inputs = ap inputs_in d; outputs = ap outputs_in d }
     go (suc k) e d = let z : ◌≡◌ {A = ℕ} 0 1 = cc in absurd (omega arith)
 
 module _ (n i o : ℕ) (entries : List ℕ) (e : entries_refusal n i o entries ≡ 0) where
-  header_back : header_of (file_of n i o entries) ≡ Counts n i o
+  header_back : header_of (file_of n i o entries) ≡ Ok (header n i o)
   header_back =
       let b = written_read n i o entries e in
       rw (b.none, b.states, b.inputs, b.outputs)
@@ -81,7 +93,7 @@ module _ (n i o : ℕ) (entries : List ℕ) (e : entries_refusal n i o entries �
 
 -- ---- what was written
 
-done_count : (k : ℕ) (file before : List ℕ) (m : ℕ) (after : List ℕ) → FilePromise k file before (Done m) after → (k ≡ 0) × (take m after ≡ file)
+done_count : (k : ℕ) (file before : List ℕ) (m : ℕ) (after : List ℕ) → FilePromise k file before (Ok m) after → (k ≡ 0) × (take m after ≡ file)
 done_count zero file before m after p =
     let d = p.result in
     let q : m ≡ length file = cc in
@@ -98,7 +110,7 @@ written_from_C n i o entries before result after result' h =
     let g =
     answered_host (λ others own. WriteWith n i o entries before others own after) laid_count
     (λ others own. write_others n i o entries before after others own) (omega arith) h in
-    let z = not_refused laid_count (write_refusal_in n i o entries (length before) true) (λ j. Refused j) _ (λ j. refl) g.promised.result
+    let z = no_refusal (λ m. m ∷ []) (write_refusal_in n i o entries (length before) true) _ _ g.promised.result
     (sym g.out.number) in
     let e = (write_accepted n i o entries before true z).asked.none in
     let file = file_of n i o entries in
@@ -111,12 +123,12 @@ written_from_C n i o entries before result after result' h =
 
 module _ (f : List ℕ) (bytes : Letters 256 f) (z : file_refusal f ≡ 0) where
   back :
-      (before : List ℕ) (r : CountResult) (after : List ℕ) → length f ≤ length before →
+      (before : List ℕ) (r : Result ℕ Refusal) (after : List ℕ) → length f ≤ length before →
       WritePromise (states_of f) (inputs_of f) (outputs_of f) (entries_of f) before r after → WroteFile f before r after
   back before r after room p =
       write_given (states_of f) (inputs_of f) (outputs_of f) (entries_of f) before f r after (file_entries f z) (read_written f bytes z) room p
 
-  rewritten : (h : Header) (part : List ℕ) → Read f h part → WritesBack f h part
+  rewritten : (h : Result Header Refusal) (part : List ℕ) → Read f h part → WritesBack f h part
   rewritten h part r =
       let e : part ≡ entries_of f = rw z at r.entries.bytes in
       record {

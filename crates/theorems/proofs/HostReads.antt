@@ -16,8 +16,6 @@ use Rattle.values.specs.Window.{window}
 use Rattle.values.specs.Order.{default_order}
 use Rattle.search.specs.Search.{search_refusal_in, RefusedSearch, FoundVerdict, SearchPromise}
 use Rattle.search_host.specs.Laid.{verdict_fields, laid_search, SearchFromHost}
-use Rattle.search.specs.declared.SearchResult.{SearchResult}
-use Rattle.search.specs.declared.SearchResult.TheVariants.{Found}
 use Rattle.search.specs.declared.Verdict.{Verdict}
 use Rattle.search.specs.declared.Verdict.TheVariants.{Least, NoDecoder}
 use Rattle.search.proofs.Files.{search_accepted}
@@ -29,6 +27,10 @@ use Rattle.layout.proofs.Reading.{field_at_lem}
 use Rattle.layout.proofs.Hosting.{answered_host}
 use Rattle.theorems.specs.RoundTrip.{FieldHolds, window_read}
 use Rattle.theorems.proofs.RoundTrip.{states_are}
+use Rattle.std.specs.Prelude.{Result, Ok}
+use Rattle.coder.specs.declared.refusal.Refusal.{Refusal}
+use Rattle.coder.specs.Refused.{refusal_of}
+use Rattle.coder.proofs.Refused.{number_some}
 
 -- field 0 of an answer, and that 0 is returned for it
 pub first_read :
@@ -48,7 +50,7 @@ second_read result l n m ns d small out = rw (out.fields, d) (field_at_lem resul
 -- its verdict is one that the library's own search in the default order promises, and lies in the fields
 pub record FoundFromC (f : List ℕ) (p : ℕ) (before result after result' : List ℕ) : Type 0 where
   pub verdict : Verdict
-  pub promised : SearchPromise default_order f p before (Found verdict) after
+  pub promised : SearchPromise default_order f p before (Ok verdict) after
   pub fields : result' ≡ with_fields result (verdict_fields verdict)
 
 pub search_found :
@@ -61,14 +63,15 @@ search_found f p before result after result' h =
     record {
       verdict = v.0;
       promised = rw v.1 at g.promised;
-      fields = g.out.fields ∙ ap (λ (x : SearchResult). with_fields result (laid_search x).fields) v.1;
+      fields = g.out.fields ∙ ap (λ (x : Result Verdict Refusal). with_fields result (laid_search x).fields) v.1;
     }
   where
     verdict :
-        (own : SearchResult) (k : ℕ) → upon k (λ j. RefusedSearch j own before after) (FoundVerdict default_order f p own before after) →
-        (laid_search own).returned ≡ 0 → (v : Verdict) × (own ≡ Found v)
+        (own : Result Verdict Refusal) (k : ℕ) → upon k (λ j. RefusedSearch j own before after) (FoundVerdict default_order f p own before after) →
+        (laid_search own).returned ≡ 0 → (v : Verdict) × (own ≡ Ok v)
     verdict own zero g z = (g.verdict, g.is)
-    verdict own (suc k) g z = let e = ap (λ (x : SearchResult). (laid_search x).returned) g.is in absurd (omega arith)
+    verdict own (suc k) g z =
+        absurd (number_some (refusal_of (suc k)) (ap (λ (x : Result Verdict Refusal). (laid_search x).returned) (sym g.is) ∙ z))
 
 -- field 0 of a verdict
 abbrev pub kind : Verdict → ℕ
@@ -94,7 +97,7 @@ module _ (f : List ℕ) (file_ok : file_refusal f ≡ 0) where
 
   -- a window that a search reports is the one that the host reads, with the host's own settle count
   window_read_lem :
-      (p : ℕ) (letters letters' result : List ℕ) (v : Verdict) → SearchPromise default_order f p letters (Found v) letters' →
+      (p : ℕ) (letters letters' result : List ℕ) (v : Verdict) → SearchPromise default_order f p letters (Ok v) letters' →
       field_at (with_fields result (verdict_fields v)) 0 ≡ 0 → v ≡ Least (window_read (with_fields result (verdict_fields v)) p)
   window_read_lem p letters letters' result (Least w) g e =
       let h = (found default_order f p letters (Least w) letters' g).says in
@@ -108,7 +111,7 @@ module _ (f : List ℕ) (file_ok : file_refusal f ≡ 0) where
 
   pub window_found :
       (p : ℕ) (letters result letters' result' : List ℕ) → SearchFromHost f p letters result 0 letters' result' → field_at result' 0 ≡ 0 →
-      SearchPromise default_order f p letters (Found (Least (window_read result' p))) letters'
+      SearchPromise default_order f p letters (Ok (Least (window_read result' p))) letters'
   window_found p letters result letters' result' found e =
       let v = search_found f p letters result letters' result' found in
       rw v.fields

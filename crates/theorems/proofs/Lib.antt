@@ -17,3 +17,4 @@ pub mod Alike
 pub mod SpareStates
 pub mod SettleCounts
 pub mod Demands
+pub mod Numbers

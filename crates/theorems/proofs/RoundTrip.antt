@@ -16,12 +16,10 @@ use Rattle.coder.specs.Limits.{max_side}
 use Rattle.coder.specs.Refusal.{letters_below}
 use Rattle.coder.specs.File.{states_of, inputs_of, outputs_of, machine_of}
 use Rattle.running.specs.Run.{run_refusal, run_refusal_in, RunPromise}
-use Rattle.running.specs.declared.RunResult.{RunResult}
 use Rattle.coder.proofs.Accepted.{accepted}
 use Rattle.coder.proofs.Tables.{output_below, file_bounded}
 use Rattle.product.proofs.Depths.{pairs_high}
 use Rattle.values.specs.declared.Window.{Window}
-use Rattle.values.specs.declared.CountResult.TheVariants.{Done}
 use Rattle.search.specs.declared.Verdict.TheVariants.{Least}
 use Rattle.search.proofs.Files.{search_accepted}
 use Rattle.search.proofs.Determined.{found}
@@ -30,6 +28,9 @@ use Rattle.decoder.specs.Places.{StringPromise}
 use Rattle.decoder_refusal.proofs.Accepting.{limits_pass}
 use Rattle.decoder.proofs.ComeBack.{string_comes_back}
 use Rattle.theorems.specs.RoundTrip.{Coded, LettersComeBack}
+use Rattle.std.specs.Prelude.{Result, Ok}
+use Rattle.coder.specs.declared.refusal.Refusal.{Refusal}
+use Rattle.running.specs.declared.RunEnd.{RunEnd}
 
 -- ---- letters
 
@@ -70,7 +71,7 @@ module _ (f : List ℕ) (s : ℕ) (xs : List ℕ) (coded : Coded f s xs) where
 
   -- the letters that a run wrote
   pub wrote :
-      (before after : List ℕ) (r : RunResult) → length xs ≤ length before → RunPromise f s xs before r after →
+      (before after : List ℕ) (r : Result RunEnd Refusal) → length xs ≤ length before → RunPromise f s xs before r after →
       take (length xs) after ≡ outs (machine_of f) s xs
   wrote before after r l p =
       rw (rw (not_refused before l) at p.bytes)
@@ -94,7 +95,7 @@ round_trip f s xs coded before₁ r₁ after₁ l h o p before₂ w after₂ q b
     (outs_letters (machine_of f) (outputs_of f) (output_below f (accepted f coded.file)) s xs) in
     record {
       ran = rw (not_refused f s xs coded before₁ l) at h.result;
-      counted = (rw z at d'.result) ∙ ap (λ n. Done (places n w)) long;
+      counted = (rw z at d'.result) ∙ ap (λ n. Ok (places n w)) long;
       back =
           λ k ahead n.
           string_comes_back f w s xs before₃ r₃ after₃ (rw report.settle report.least.works) coded.start coded.letters z d' k

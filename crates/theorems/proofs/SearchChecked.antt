@@ -21,15 +21,12 @@ use Rattle.values.specs.declared.LoopedPair.{LoopedPair}
 use Rattle.values.specs.declared.Order.{Order}
 use Rattle.search.specs.Search.{SearchPromise}
 use Rattle.search_host.specs.Laid.{verdict_fields, SearchFromHost}
-use Rattle.search.specs.declared.SearchResult.TheVariants.{Found}
 use Rattle.search.specs.declared.Verdict.{Verdict}
 use Rattle.search.specs.declared.Verdict.TheVariants.{Least, NoDecoder}
 use Rattle.search.proofs.Files.{search_accepted}
 use Rattle.search.proofs.Determined.{found, pair_short}
 use Rattle.checker.specs.Check.{check_refusal, CheckedRight, CheckWith, CheckPromise}
 use Rattle.checker_host.specs.Laid.{laid_check}
-use Rattle.checker.specs.declared.CheckResult.{CheckResult}
-use Rattle.checker.specs.declared.CheckResult.TheVariants.{Checked}
 use Rattle.checker.proofs.Determined.{checked_as}
 use Rattle.layout.specs.Layout.{with_fields, field_at}
 use Rattle.layout.proofs.Reading.{field_at_lem}
@@ -37,12 +34,15 @@ use Rattle.layout.proofs.Hosting.{from_host}
 use Rattle.theorems.specs.SearchChecked.{letters_in, PairBounds, pair_read, SearchChecked}
 use Rattle.theorems.proofs.RoundTrip.{letters_test}
 use Rattle.theorems.proofs.HostReads.{first_read, search_found, kind_read}
+use Rattle.std.specs.Prelude.{Result, Ok}
+use Rattle.coder.specs.declared.refusal.Refusal.{Refusal}
+use Rattle.std.specs.Prelude.{Bool}
 
 -- For a "no decoder", the check of that pair with the bytes of its letters, the first ones of the buffer, is not refused and says yes.
 search_checked :
-    (o : Order) (f : List ℕ) (p : ℕ) (before : List ℕ) (q : LoopedPair) (after : List ℕ) (r : CheckResult) →
-    SearchPromise o f p before (Found (NoDecoder q)) after →
-    CheckPromise f (pair_of q (letters_in q after)) r → r ≡ Checked true
+    (o : Order) (f : List ℕ) (p : ℕ) (before : List ℕ) (q : LoopedPair) (after : List ℕ) (r : Result Bool Refusal) →
+    SearchPromise o f p before (Ok (NoDecoder q)) after →
+    CheckPromise f (pair_of q (letters_in q after)) r → r ≡ Ok true
 unfolding machine_of check_refusal
 search_checked o f p before q after r s c =
     let h = found o f p before (NoDecoder q) after s in
@@ -63,7 +63,7 @@ search_checked o f p before q after r s c =
     checked_as f (pair_of q (take n after)) g (judges_yes (valid_cut (setting_of f) (pair_of q after) v))
 
 module _ (o : Order) (f : List ℕ) (p : ℕ) (before : List ℕ) (q : LoopedPair) (after : List ℕ)
-    (s : SearchPromise o f p before (Found (NoDecoder q)) after) where
+    (s : SearchPromise o f p before (Ok (NoDecoder q)) after) where
   file_ok : file_refusal f ≡ 0
   file_ok = (search_accepted f p _ (found o f p before (NoDecoder q) after s).accepted).file
 
@@ -104,14 +104,14 @@ module _ (o : Order) (f : List ℕ) (p : ℕ) (before : List ℕ) (q : LoopedPai
 -- a search from C with 1 in field 0: the pair that the host reads is one that the library's own search promises
 pair_found :
     (f : List ℕ) (p : ℕ) (before result after given : List ℕ) → SearchFromHost f p before result 0 after given → field_at given 0 ≡ 1 →
-    SearchPromise default_order f p before (Found (NoDecoder (pair_read given))) after
+    SearchPromise default_order f p before (Ok (NoDecoder (pair_read given))) after
 pair_found f p before result after given h e =
     let v = search_found f p before result after given h in
     rw v.fields (go v.verdict v.promised (rw v.fields at e))
   where
     go :
-        (v : Verdict) → SearchPromise default_order f p before (Found v) after → field_at (with_fields result (verdict_fields v)) 0 ≡ 1 →
-        SearchPromise default_order f p before (Found (NoDecoder (pair_read (with_fields result (verdict_fields v))))) after
+        (v : Verdict) → SearchPromise default_order f p before (Ok v) after → field_at (with_fields result (verdict_fields v)) 0 ≡ 1 →
+        SearchPromise default_order f p before (Ok (NoDecoder (pair_read (with_fields result (verdict_fields v))))) after
     go (Least w) s z = let k = kind_read result (Least w) in absurd (omega arith)
     go (NoDecoder q) s z = rw (← pair_read_lem default_order f p before q after s result) s
 

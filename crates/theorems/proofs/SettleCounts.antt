@@ -17,7 +17,6 @@ use Rattle.values.specs.declared.LoopedPair.{LoopedPair}
 use Rattle.search.specs.Search.{IsNoDecoder, SearchPromise}
 use Rattle.search.specs.declared.Verdict.{Verdict}
 use Rattle.search.specs.declared.Verdict.TheVariants.{Least, NoDecoder}
-use Rattle.search.specs.declared.SearchResult.TheVariants.{Found}
 use Rattle.search.proofs.Determined.{found, no_decoder_any, pair_any}
 use Rattle.layout.specs.Layout.{with_fields, field_at}
 use Rattle.window_limits.proofs.Limits.{settle_pass}
@@ -28,6 +27,7 @@ use Rattle.theorems.proofs.HostReads.{search_found, kind, read_kind, read_file, 
 use Rattle.theorems.specs.SettleCounts.{SameWith, SettleCounts}
 use Rattle.theorems.proofs.Demands.{no_later_said}
 use Rattle.theorems.proofs.Alike.{Alike, search_alike, search_alike_from_C, answers_alike, answers_from_C}
+use Rattle.std.specs.Prelude.{Ok}
 
 module _ (f : List ℕ) (p p' : ℕ) (ok : file_refusal f ≡ 0) (l : 15 ≤ p) (m : p ≤ 64) (l' : 15 ≤ p')
     (m' : p' ≤ 64) where
@@ -61,7 +61,7 @@ module _ (f : List ℕ) (p p' : ℕ) (ok : file_refusal f ≡ 0) (l : 15 ≤ p) 
 -- of two settle counts, the larger gives no later window
 larger :
     (o : Order) (f : List ℕ) (p p' : ℕ) (before before' : List ℕ) (w w' : Window) (after after' : List ℕ) → p ≤ p' →
-    SearchPromise o f p before (Found (Least w)) after → SearchPromise o f p' before' (Found (Least w')) after' →
+    SearchPromise o f p before (Ok (Least w)) after → SearchPromise o f p' before' (Ok (Least w')) after' →
     NoLater o w' w.before w.after
 larger o f p p' before before' w w' after after' l x y =
     no_later_said o w' w.before w.after
@@ -99,8 +99,8 @@ pair_read_lem f p p' before result after given after' given' h h' e =
     y.promised x.fields y.fields
   where
     go :
-        (v v' : Verdict) → kind v ≡ 1 → kind v' ≡ 1 → SearchPromise default_order f p before (Found v) after →
-        SearchPromise default_order f p' before (Found v') after' → given ≡ with_fields result (verdict_fields v) →
+        (v v' : Verdict) → kind v ≡ 1 → kind v' ≡ 1 → SearchPromise default_order f p before (Ok v) after →
+        SearchPromise default_order f p' before (Ok v') after' → given ≡ with_fields result (verdict_fields v) →
         given' ≡ with_fields result (verdict_fields v') → (after ≡ after') × (given ≡ given')
     go (Least w) v' k k' x y d d' = absurd (omega arith)
     go (NoDecoder q) (Least w') k k' x y d d' = absurd (omega arith)

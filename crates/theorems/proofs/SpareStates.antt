@@ -21,7 +21,6 @@ use Rattle.coder.proofs.Refusals.{answer_same, upon_map}
 use Rattle.coder.proofs.Tables.{total, some_state, file_bounded}
 use Rattle.running.specs.Run.{run_refusal}
 use Rattle.running_host.specs.Laid.{laid_run}
-use Rattle.running.specs.declared.RunResult.TheVariants as run
 use Rattle.running.proofs.Running.{run_accepted}
 use Rattle.values.specs.Window.{window}
 use Rattle.values.specs.Order.{relation_of}
@@ -29,18 +28,19 @@ use Rattle.values.specs.declared.Order.{Order}
 use Rattle.search.specs.Search.{search_refusal_in, SaysOf, FoundVerdict, RefusedSearch, SearchWith}
 use Rattle.search.specs.declared.Verdict.{Verdict}
 use Rattle.search.specs.declared.Verdict.TheVariants.{Least, NoDecoder}
-use Rattle.search.specs.declared.SearchResult.{SearchResult}
-use Rattle.search.specs.declared.SearchResult.TheVariants.{Found}
 use Rattle.checker.specs.Check.{check_refusal, CheckedRight, CheckWith}
 use Rattle.checker_host.specs.Laid.{laid_check}
 use Rattle.checker.proofs.Determined as checker
-use Rattle.checker.specs.declared.CheckResult.TheVariants as check
 use Rattle.layout.proofs.Hosting.{from_host, same_host, same_host_buffer}
 use Rattle.theorems.specs.SpareStates.{FileWithSpare, SameOutcomes, SameOutcomesFromC, SpareStates}
 use Rattle.theorems.specs.SettleCounts.{verdict_with, result_with}
 use Rattle.theorems.proofs.RoundTrip.{states_are}
 use Rattle.theorems.proofs.Alike.{Alike, search_alike, search_alike_from_C, answers_alike, answers_from_C}
 use Rattle.theorems.proofs.HostReads.{first_read}
+use Rattle.std.specs.Prelude.{Result, Ok}
+use Rattle.coder.specs.declared.refusal.Refusal.{Refusal}
+use Rattle.coder.specs.Refused.{Refused}
+use Rattle.running.specs.Run.{run_end}
 
 -- ---- from the one file to the other
 
@@ -84,8 +84,8 @@ module _ {f f' : List ℕ} (h : FileWithSpare f f') where
     run_outs : outs (machine_of f) s xs ≡ outs (machine_of f') s xs
     run_outs = outs_same same s xs r own_letters
 
-    run_end : end (machine_of f) s xs ≡ end (machine_of f') s xs
-    run_end = end_same same s xs r own_letters
+    run_last : end (machine_of f) s xs ≡ end (machine_of f') s xs
+    run_last = end_same same s xs r own_letters
 
   -- pairs
   check_number : (q : LoopedPair) (fits : Bool) → ((u : Run) → start_of q u < states_of f) → check_refusal f q fits ≡ check_refusal f' q fits
@@ -111,7 +111,7 @@ module _ {f f' : List ℕ} (h : FileWithSpare f f') where
 
 -- a result that a search promises has the settle count that the search was made with
 own_settle :
-    (o : Order) (f : List ℕ) (p : ℕ) (before : List ℕ) (others : Bool) (r : SearchResult) (after : List ℕ) →
+    (o : Order) (f : List ℕ) (p : ℕ) (before : List ℕ) (others : Bool) (r : Result Verdict Refusal) (after : List ℕ) →
     SearchWith o f p before others r after → r ≡ result_with p r
 own_settle o f p before others r after = go (search_refusal_in f p (length before) others)
   where
@@ -120,7 +120,7 @@ own_settle o f p before others r after = go (search_refusal_in f p (length befor
     settle (NoDecoder q) s = refl
 
     go : (k : ℕ) → upon k (λ j. RefusedSearch j r before after) (FoundVerdict o f p r before after) → r ≡ result_with p r
-    go zero g = g.is ∙ ap Found (settle g.verdict g.says) ∙ sym (ap (result_with p) g.is)
+    go zero g = g.is ∙ ap Ok (settle g.verdict g.says) ∙ sym (ap (result_with p) g.is)
     go (suc k) g = g.is ∙ sym (ap (result_with p) g.is)
 
 module _ {f f' : List ℕ} (h : FileWithSpare f f') where
@@ -131,7 +131,7 @@ module _ {f f' : List ℕ} (h : FileWithSpare f f') where
             let fits = (leb (length xs) (length before) && others) in
             let e = run_number h s xs fits reach in (
               x.result
-                  ∙ answer_same (λ k. run.Refused k) _ _ e (λ z. ap (run.Done (length xs)) (run_end h s xs reach fits z))
+                  ∙ answer_same (λ k. Refused k) _ _ e (λ z. ap (λ t. Ok (run_end (length xs) t)) (run_last h s xs reach fits z))
                   ∙ sym y.result,
               x.bytes
                   ∙ answer_same (λ k. before) _ _ e (λ z. ap (λ os. os ++ drop (length xs) before) (run_outs h s xs reach fits z))
@@ -143,7 +143,7 @@ module _ {f f' : List ℕ} (h : FileWithSpare f f') where
         answers = λ p. answers_alike (alike h p);
         check = λ q others r r' l a b.
             checker.check_determined f' q others r r'
-            (upon_map (λ k. r ≡ check.Refused k) (CheckedRight f q r) (CheckedRight f' q r) (check_number h q others l)
+            (upon_map (λ k. r ≡ Refused k) (CheckedRight f q r) (CheckedRight f' q r) (check_number h q others l)
             (λ z g.
             let j = judged_same h (record { yes' = g.yes'; no' = g.no' }) in
             record { answer = g.answer; is = g.is; yes' = j.yes'; no' = j.no' })

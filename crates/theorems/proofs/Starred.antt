@@ -37,7 +37,6 @@ use Rattle.coder.proofs.Judging.{judges_yes, judges_not}
 use Rattle.coder.proofs.Tables.{total, some_state}
 use Rattle.chains.specs.Chain.{is_entry, has_key, over}
 use Rattle.running.specs.Run.{run_refusal, run_refusal_in}
-use Rattle.running.specs.declared.RunResult as run_result
 use Rattle.values.specs.Window.{window, size}
 use Rattle.values.specs.Order.{relation_of}
 use Rattle.values.specs.Pair.{pair_of, looped_pair}
@@ -45,7 +44,6 @@ use Rattle.values.specs.declared.Order.{Order}
 use Rattle.values.proofs.Orders.{is_order}
 use Rattle.values.specs.declared.Window.{Window}
 use Rattle.values.specs.declared.LoopedPair as values
-use Rattle.values.specs.declared.CountResult.TheVariants.{Done}
 use Rattle.fitting.specs.Answer.{meaning, answer_of, RightByte}
 use Rattle.fitting.specs.declared.Answer.{Answer}
 use Rattle.fitting.specs.declared.Answer.TheVariants.{Letter, None, Several}
@@ -57,7 +55,6 @@ use Rattle.decoder_refusal.specs.Refusal.{table_refusal_in}
 use Rattle.decoder.specs.Written.{Written}
 use Rattle.window_limits.specs.Refusal.{sides_refusal, settle_refusal}
 use Rattle.decoder.specs.Window.{AnsweredRight}
-use Rattle.decoder.specs.declared.WindowResult.TheVariants.{Answered}
 use Rattle.decoder_refusal.proofs.Accepting.{window_accepted}
 use Rattle.decoder.proofs.Writing.{written_bytes, written_unique}
 use Rattle.decoder.proofs.Decoding.{starts_of, file_starts, decoded, file_right}
@@ -69,8 +66,6 @@ use Rattle.search.specs.Search.{search_refusal_in, wanted, SaysOf, FoundVerdict,
 use Rattle.search.proofs.Files.{search_pass}
 use Rattle.search.specs.declared.Verdict.{Verdict}
 use Rattle.search.specs.declared.Verdict.TheVariants.{Least, NoDecoder}
-use Rattle.search.specs.declared.SearchResult.{SearchResult}
-use Rattle.search.specs.declared.SearchResult.TheVariants.{Found}
 use Rattle.checker.specs.Check.{check_refusal, CheckedRight}
 use Rattle.checker.proofs.Determined.{checked_as}
 use Rattle.theorems.specs.Starred as claimed
@@ -81,6 +76,9 @@ use Rattle.theorems.proofs.Tests.{same_list, same_list_lem, all_starts, all_word
 use Rattle.theorems.proofs.Tests.{least_test, least_letters}
 use Rattle.theorems.proofs.Tests.{closes_test, valid_test, test_valid, no_earlier, first_test, first_size, first_test_lem, different_test}
 use Rattle.theorems.proofs.Tests.{different_test_lem}
+use Rattle.std.specs.Prelude.{Result, Ok}
+use Rattle.coder.specs.declared.refusal.Refusal.{Refusal}
+use Rattle.running.specs.Run.{run_end}
 
 -- ---- the test of a claim
 
@@ -138,7 +136,7 @@ test f (claimed.run s xs os e) =
 module _ (f : List ℕ) (z : file_refusal f ≡ 0) where
   -- a search with room for any verdict and a settle count within the limit is not refused
   searched :
-      (o : Order) (p : ℕ) (before : List ℕ) (r : SearchResult) (after : List ℕ) → p ≤ max_settle → wanted ≤ length before →
+      (o : Order) (p : ℕ) (before : List ℕ) (r : Result Verdict Refusal) (after : List ℕ) → p ≤ max_settle → wanted ≤ length before →
       SearchPromise o f p before r after → FoundVerdict o f p r before after
   searched o p before r after m l h =
       let e : search_refusal_in f p (length before) true ≡ 0 = rw (le-leb wanted (length before) l) (search_pass f p z m) in
@@ -151,11 +149,11 @@ module _ (f : List ℕ) (z : file_refusal f ≡ 0) where
       h : FoundVerdict o f p r before after
       h = searched o p before r after m l g
 
-      go : (v : Verdict) → r ≡ Found v → SaysOf o f p v before after → (r ≡ Found (Least (window b a p))) × (after ≡ before)
+      go : (v : Verdict) → r ≡ Ok v → SaysOf o f p v before after → (r ≡ Ok (Least (window b a p))) × (after ≡ before)
       go (Least w) e s =
           let u = least_unique (is_order o) (setting_after f p) w.before w.after b a s.least least in
           let same : window w.before w.after w.settle ≡ window b a p = rw (u.0, u.1, s.settle) in
-          (e ∙ ap (λ (x : Window). Found (Least x)) same, s.stays)
+          (e ∙ ap (λ (x : Window). Ok (Least x)) same, s.stays)
       go (NoDecoder q) e s = absurd (s.none b a least.works)
 
   no_decoder_holds :
@@ -169,9 +167,9 @@ module _ (f : List ℕ) (z : file_refusal f ≡ 0) where
   )
     where
       go :
-          (o : Order) (p : ℕ) (r : SearchResult) (u : Verdict) → r ≡ Found u → (before after : List ℕ) →
+          (o : Order) (p : ℕ) (r : Result Verdict Refusal) (u : Verdict) → r ≡ Ok u → (before after : List ℕ) →
           SaysOf o f p u before after →
-          (r ≡ Found (NoDecoder (looped_pair s t 1 0 0 1))) × (after ≡ with_front bytes before)
+          (r ≡ Ok (NoDecoder (looped_pair s t 1 0 0 1))) × (after ≡ with_front bytes before)
       go o p r (Least w) d before after h =
           absurd
           (excludes (setting_after f p) (claimed.pair s t bytes) ((valid_after (machine_of f) p (claimed.pair s t bytes)).0 first.valid)
@@ -190,7 +188,7 @@ module _ (f : List ℕ) (z : file_refusal f ≡ 0) where
           let e₆ : q.forward_loop ≡ 1 = cc in
           let same : looped_pair q.s q.t q.back_loop q.lead_in q.lead_out q.forward_loop ≡ looped_pair s t 1 0 0 1 =
           rw (e₁, e₂, e₃, e₄, e₅, e₆) in (
-            d ∙ ap (λ (x : values.LoopedPair). Found (NoDecoder x)) same,
+            d ∙ ap (λ (x : values.LoopedPair). Ok (NoDecoder x)) same,
             sym (take-append-drop (2 * letters (pair_of q after)) after) ∙
                 ap₂ (λ (x y : List ℕ). x ++ y) (front ∙ own) (h.rest ∙ ap (λ (j : ℕ). drop j before) m),
           )
@@ -209,7 +207,7 @@ module _ (f : List ℕ) (z : file_refusal f ≡ 0) where
       let h : AnsweredRight f (window b a p) received r = rw e at g in
       let inside = (window_accepted f (window b a p) received true e).long in
       let right = file_right f z p received b (omega arith) in
-      h.is ∙ ap (λ (x : Answer). Answered x) (right_unique (setting_after f p) received b h.answer _ h.right right ∙ q)
+      h.is ∙ ap (λ (x : Answer). Ok x) (right_unique (setting_after f p) received b h.answer _ h.right right ∙ q)
 
   -- bytes that a call is to write, each the byte for a part of at least b + 1 letters
   bytes_hold :
@@ -234,7 +232,7 @@ module _ (f : List ℕ) (z : file_refusal f ≡ 0) where
       let n = places (length received) w in
       let room : n ≤ length before = omega arith in
       let none : string_refusal_in f w received (length before) true ≡ 0 = rw (le-leb n (length before) room) e in (
-        (rw none at g.result) ∙ ap (λ (m : ℕ). Done m) (sym long),
+        (rw none at g.result) ∙ ap (λ (m : ℕ). Ok m) (sym long),
         bytes_hold b p (λ k. take (size w) (drop k received)) bytes before after n long room
             (λ k m.
             let full : length (take (size w) (drop k received)) ≡ size w =
@@ -251,7 +249,7 @@ module _ (f : List ℕ) (z : file_refusal f ≡ 0) where
       let n = table_size (outputs_of f) w in
       let room : n ≤ length before = omega arith in
       let none : table_refusal_in f w (length before) true ≡ 0 = rw (le-leb n (length before) room) e in (
-        (rw none at g.result) ∙ ap (λ (m : ℕ). Done m) (sym long),
+        (rw none at g.result) ∙ ap (λ (m : ℕ). Ok m) (sym long),
         bytes_hold b p (window_at (outputs_of f) (size w)) bytes before after n long room
             (λ k m. omega (arith, length_window (outputs_of f) (size w) k)) each (rw none at g.bytes),
       )
@@ -261,7 +259,7 @@ module _ (f : List ℕ) (z : file_refusal f ≡ 0) where
       Holds f (claimed.run s xs os e)
   run_holds s xs os e none o n before r after l p =
       let none' : run_refusal_in f s xs (length before) true ≡ 0 = rw (le-leb (length xs) (length before) l) none in (
-        (rw none' at p.result) ∙ ap (λ (x : ℕ). run_result.TheVariants.Done (length xs) x) n,
+        (rw none' at p.result) ∙ ap (λ (x : ℕ). Ok (run_end (length xs) x)) n,
         (rw none' at p.bytes) ∙ ap (λ (x : List ℕ). x ++ drop (length xs) before) o,
       )
 

@@ -4,7 +4,7 @@ use mathlib.Core.Path.{◌≡◌, refl, sym, ap, ◌∙◌}
 use mathlib.Core.Bool.{Bool, true, false, not, ◌&&◌}
 use mathlib.Core.Logic.{◌↔◌}
 use mathlib.Core.List.{List}
-use Prim.Native.Nat.{ℕ, zero, suc}
+use Prim.Native.Nat.{ℕ, zero, suc, ◌≤◌}
 use native.Mathlib.Omega.{arith}
 use lib.ListN.{length}
 use lib.Dec.{leb}
@@ -16,15 +16,18 @@ use Rattle.coder.proofs.Refusals.{refuse_either, first_either}
 use Rattle.coder.proofs.FileNumbers.{file_number}
 use Rattle.values.specs.Window.{size}
 use Rattle.values.specs.declared.Window.{Window}
-use Rattle.values.specs.declared.CountResult.TheVariants.{Refused, Done}
 use Rattle.table_size.specs.Size.{max_table}
 use Rattle.table_size.specs.Cases.{table_allowed}
 use Rattle.table_size.proofs.Exact.{cases_exact}
 use Rattle.window_limits.specs.Refusal.{sides_refusal, settle_refusal}
 use Rattle.layout.specs.Host.{roomy, laid_count}
 use Rattle.decoder_refusal.specs.Refusal.{limits_refusal, table_size, table_refusal, table_refusal_in}
+use Rattle.decoder_refusal.proofs.Accepting.{table_known}
 use Rattle.decoder_refusal.proofs.Accepting.{table_by_cases}
 use Rattle.theorems.specs.TableLimit.{CasesExact, RefusedByCases, TableLimit}
+use Rattle.std.specs.Prelude.{Ok}
+use Rattle.coder.specs.Refused.{Refused, number_in}
+use Rattle.coder.proofs.Refused.{number_back}
 
 exactly : CasesExact
 exactly o w l h s =
@@ -64,25 +67,26 @@ module _ (f : List ℕ) (w : Window) (fits : Bool) where
       from e zero z false q = record { limits = z; not_allowed = q }
 
 -- a result is the refusal 10 exactly if 10 is the number
-refused_ten : (k n : ℕ) → (answer k (λ j. Refused j) (Done n) ≡ Refused 10) ↔ (k ≡ 10)
-refused_ten zero n = ((λ e. let z : ◌≡◌ {A = ℕ} 0 1 = cc in absurd (omega arith)), λ e. absurd (omega arith))
-refused_ten (suc k) n = ((λ e. cc), λ e. rw e)
+refused_ten : (k n : ℕ) → k ≤ 17 → (answer k (λ j. Refused j) (Ok n) ≡ Refused 10) ↔ (k ≡ 10)
+refused_ten zero n l = ((λ e. let z : ◌≡◌ {A = ℕ} 0 1 = cc in absurd (omega arith)), λ e. absurd (omega arith))
+refused_ten (suc k) n l =
+    ((λ e. sym (number_back (suc k) (omega arith) l) ∙ ap number_in e ∙ number_back 10 (omega arith) (omega arith)), λ e. ap (λ j. Refused j) e)
 
 -- what is returned for a result is the refusal's number
-returned_count : (k n : ℕ) → (laid_count (answer k (λ j. Refused j) (Done n))).returned ≡ k
-returned_count zero n = refl
-returned_count (suc k) n = refl
+returned_count : (k n : ℕ) → k ≤ 17 → (laid_count (answer k (λ j. Refused j) (Ok n))).returned ≡ k
+returned_count zero n l = refl
+returned_count (suc k) n l = number_back (suc k) (omega arith) l
 
 pub table_limit : TableLimit
 table_limit = record {
   exact = exactly;
   call = λ f w before r after p.
       let t = ten f w _ in
-      let k = refused_ten (table_refusal_in f w (length before) true) (table_size (outputs_of f) w) in
+      let k = refused_ten (table_refusal_in f w (length before) true) (table_size (outputs_of f) w) (table_known f w _) in
       ((λ e. t.0 (k.0 (sym p.result ∙ e))), λ q. p.result ∙ k.1 (t.1 q));
   call_from_C = λ f w before result r after result' h.
       let t = ten f w _ in
       let k = table_refusal_in f w (length before) (roomy result) in
-      let n = h.out.number ∙ ap (λ x. (laid_count x).returned) h.promised.result ∙ returned_count k _ in
+      let n = h.out.number ∙ ap (λ x. (laid_count x).returned) h.promised.result ∙ returned_count k _ (table_known f w _) in
       ((λ e. t.0 (sym n ∙ e)), λ q. n ∙ t.1 q);
 }

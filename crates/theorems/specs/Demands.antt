@@ -8,7 +8,7 @@
 -- theorems_damage that damage to a string does not travel, theorems_joined what is said of two coders in a row. The runs that pairs go by
 -- start in reachable states (document 02, 5/13): `setting_of`. Those of windows and answers start where as many letters as the settle count
 -- says lead from there (6/13): `setting_after`, and of the decoder's calls `window_setting`.
-use Rattle.std.specs.Prelude.{ℕ, suc, ◌+◌, ◌≤◌, ◌<◌, ◌≡◌, Bool, true, ◌↔◌, List, [], ◌++◌, length, get_or, take, drop}
+use Rattle.std.specs.Prelude.{ℕ, suc, ◌+◌, ◌≤◌, ◌<◌, ◌≡◌, Bool, true, ◌↔◌, List, [], ◌++◌, length, get_or, take, drop, Option}
 use Rattle.mealy.specs.Machine.{outs, end}
 use Rattle.mealy.specs.Window.{Works}
 use Rattle.mealy.specs.Setting.{Setting}
@@ -23,18 +23,13 @@ use Rattle.coder.specs.Refusal.{upon}
 use Rattle.coder.specs.File.{states_of, inputs_of, outputs_of, entries_of, file_of, machine_of, setting_of, setting_after}
 use Rattle.reader.specs.Read.{header_of, EntriesPart}
 use Rattle.reader.specs.declared.Header.{Header}
-use Rattle.reader.specs.declared.Header as header_result
 use Rattle.running.specs.Run.{RunWith, RunPromise}
-use Rattle.running.specs.declared.RunResult.{RunResult}
-use Rattle.running.specs.declared.RunResult as run_result
 use Rattle.values.specs.Window.{size}
 use Rattle.values.specs.Pair.{pair_of}
 use Rattle.values.specs.declared.Window.{Window}
 use Rattle.values.specs.declared.Order.{Order}
 use Rattle.values.specs.declared.Order.TheVariants.{LeastLookahead, FewestLetters}
 use Rattle.values.specs.declared.LoopedPair.{LoopedPair}
-use Rattle.values.specs.declared.CountResult.{CountResult}
-use Rattle.values.specs.declared.CountResult as count_result
 use Rattle.fitting.specs.Answer.{meaning}
 use Rattle.fitting.specs.declared.Answer.{Answer}
 use Rattle.decoder_refusal.specs.Refusal.{table_size, places}
@@ -42,23 +37,13 @@ use Rattle.decoder.specs.Written.{Written}
 use Rattle.decoder.specs.Window.{window_setting, AnsweredRight, WindowWith, WindowPromise}
 use Rattle.decoder.specs.Places.{ByteAt, StringWith, StringPromise}
 use Rattle.decoder.specs.Table.{EntryOf, TableWith, TablePromise}
-use Rattle.decoder.specs.declared.WindowResult.{WindowResult}
-use Rattle.decoder.specs.declared.WindowResult as window_result
 use Rattle.search.specs.Search.{IsNoDecoder, FoundVerdict, SearchWith, SearchPromise}
 use Rattle.search_host.specs.Laid.{verdict_fields, SearchFromHost}
 use Rattle.search.specs.declared.Verdict.{Verdict}
 use Rattle.search.specs.declared.Verdict.TheVariants.{Least, NoDecoder}
-use Rattle.search.specs.declared.SearchResult.{SearchResult}
-use Rattle.search.specs.declared.SearchResult as search_result
 use Rattle.checker.specs.Check.{CheckedRight, CheckWith}
-use Rattle.checker.specs.declared.CheckResult.{CheckResult}
-use Rattle.checker.specs.declared.CheckResult as check_result
 use Rattle.search_kinds.specs.Search.{FoundKinds, SearchKindsWith}
-use Rattle.search_kinds.specs.declared.KindsResult.{KindsResult}
-use Rattle.search_kinds.specs.declared.KindsResult as kinds_result
 use Rattle.window_kinds.specs.Window.{AnsweredKinds, WindowKindsWith}
-use Rattle.window_kinds.specs.declared.WindowKindsResult.{WindowKindsResult}
-use Rattle.window_kinds.specs.declared.WindowKindsResult as window_kinds_result
 use Rattle.placing.specs.Placed.{with_front}
 use Rattle.writer.specs.Write.{WriteWith}
 use Rattle.joining.specs.Join.{joined_file, JoinWith}
@@ -68,6 +53,14 @@ use Rattle.layout.specs.Host.{Laid, refused, LaidOut, Handed, FromHost}
 use Rattle.published.specs.Published.{Rule, first_number, Bytes, long_enough, file_rules, given_run, given_search, given_check, given_window}
 use Rattle.published.specs.Published.{given_string, given_table, given_search_kinds, given_window_kinds, given_write, given_join, result_given}
 use Rattle.theorems.specs.RoundTrip.{LettersComeBack, LettersComeBackFromC}
+use Rattle.std.specs.Prelude.{Result, Ok}
+use Rattle.coder.specs.declared.refusal.Refusal.{Refusal}
+use Rattle.coder.specs.Refused.{Refused}
+use Rattle.running.specs.declared.RunEnd.{RunEnd}
+use Rattle.running.specs.Run.{run_end}
+use Rattle.search_kinds.specs.declared.Told.{Told}
+use Rattle.window_kinds.specs.declared.KindsAnswer.{KindsAnswer}
+use Rattle.reader.specs.Read.{header}
 
 -- ---- demand 1: accepted and answered, or refused by number with nothing changed
 
@@ -81,61 +74,61 @@ Judged rules Refused Answered = upon (first_number rules) Refused Answered
 -- call that hands entries back has an empty part for a number, and else the bytes of the file from byte 6 on, where they stand in it.
 pub record Demand1 : Type 0 where
   pub counts :
-      (f : List ℕ) (r : Header) → r ≡ header_of f →
-      Judged (file_rules f) (λ k. r ≡ header_result.TheVariants.Refused k)
-      (r ≡ header_result.TheVariants.Counts (states_of f) (inputs_of f) (outputs_of f))
+      (f : List ℕ) (r : Result Header Refusal) → r ≡ header_of f →
+      Judged (file_rules f) (λ k. r ≡ Refused k)
+      (r ≡ Ok (header (states_of f) (inputs_of f) (outputs_of f)))
   pub entries :
       (f : List ℕ) (file place : ℕ × ℕ) (part : List ℕ) → EntriesPart f file part place →
       Judged (file_rules f) (λ k. part ≡ [])
       ((part ≡ entries_of f) × (place.0 ≡ file.0) × (place.1 ≡ file.1 + 6))
   pub run :
-      (f : List ℕ) (s : ℕ) (xs before : List ℕ) (others : List Bytes) (r : RunResult) (after : List ℕ) →
+      (f : List ℕ) (s : ℕ) (xs before : List ℕ) (others : List Bytes) (r : Result RunEnd Refusal) (after : List ℕ) →
       RunWith f s xs before (long_enough others) r after →
-      Judged (given_run f s xs before others) (λ k. (r ≡ run_result.TheVariants.Refused k) × (after ≡ before))
-      ((r ≡ run_result.TheVariants.Done (length xs) (end (machine_of f) s xs)) ×
+      Judged (given_run f s xs before others) (λ k. (r ≡ Refused k) × (after ≡ before))
+      ((r ≡ Ok (run_end (length xs) (end (machine_of f) s xs))) ×
       (after ≡ outs (machine_of f) s xs ++ drop (length xs) before))
   pub window :
-      (f : List ℕ) (w : Window) (received : List ℕ) (others : List Bytes) (r : WindowResult) →
+      (f : List ℕ) (w : Window) (received : List ℕ) (others : List Bytes) (r : Result Answer Refusal) →
       WindowWith f w received (long_enough others) r →
-      Judged (given_window f w received others) (λ k. r ≡ window_result.TheVariants.Refused k) (AnsweredRight f w received r)
+      Judged (given_window f w received others) (λ k. r ≡ Refused k) (AnsweredRight f w received r)
   pub string :
-      (f : List ℕ) (w : Window) (received before : List ℕ) (others : List Bytes) (r : CountResult) (after : List ℕ) →
+      (f : List ℕ) (w : Window) (received before : List ℕ) (others : List Bytes) (r : Result ℕ Refusal) (after : List ℕ) →
       StringWith f w received before (long_enough others) r after →
-      Judged (given_string f w received before others) (λ k. (r ≡ count_result.TheVariants.Refused k) × (after ≡ before))
-      ((r ≡ count_result.TheVariants.Done (places (length received) w)) ×
+      Judged (given_string f w received before others) (λ k. (r ≡ Refused k) × (after ≡ before))
+      ((r ≡ Ok (places (length received) w)) ×
       Written (ByteAt f received w) (places (length received) w) before after)
   pub table :
-      (f : List ℕ) (w : Window) (before : List ℕ) (others : List Bytes) (r : CountResult) (after : List ℕ) →
+      (f : List ℕ) (w : Window) (before : List ℕ) (others : List Bytes) (r : Result ℕ Refusal) (after : List ℕ) →
       TableWith f w before (long_enough others) r after →
-      Judged (given_table f w before others) (λ k. (r ≡ count_result.TheVariants.Refused k) × (after ≡ before))
-      ((r ≡ count_result.TheVariants.Done (table_size (outputs_of f) w)) ×
+      Judged (given_table f w before others) (λ k. (r ≡ Refused k) × (after ≡ before))
+      ((r ≡ Ok (table_size (outputs_of f) w)) ×
       Written (EntryOf f w) (table_size (outputs_of f) w) before after)
   pub search :
-      (o : Order) (f : List ℕ) (p : ℕ) (before : List ℕ) (others : List Bytes) (r : SearchResult) (after : List ℕ) →
+      (o : Order) (f : List ℕ) (p : ℕ) (before : List ℕ) (others : List Bytes) (r : Result Verdict Refusal) (after : List ℕ) →
       SearchWith o f p before (long_enough others) r after →
-      Judged (given_search f p before others) (λ k. (r ≡ search_result.TheVariants.Refused k) × (after ≡ before))
+      Judged (given_search f p before others) (λ k. (r ≡ Refused k) × (after ≡ before))
       (FoundVerdict o f p r before after)
   pub check :
-      (f : List ℕ) (q : mealy.LoopedPair) (others : List Bytes) (r : CheckResult) → CheckWith f q (long_enough others) r →
-      Judged (given_check f q others) (λ k. r ≡ check_result.TheVariants.Refused k) (CheckedRight f q r)
+      (f : List ℕ) (q : mealy.LoopedPair) (others : List Bytes) (r : Result Bool Refusal) → CheckWith f q (long_enough others) r →
+      Judged (given_check f q others) (λ k. r ≡ Refused k) (CheckedRight f q r)
   pub search_kinds :
-      (f kinds : List ℕ) (others : List Bytes) (r : KindsResult) → SearchKindsWith f kinds (long_enough others) r →
-      Judged (given_search_kinds f kinds others) (λ k. r ≡ kinds_result.TheVariants.Refused k) (FoundKinds f kinds r)
+      (f kinds : List ℕ) (others : List Bytes) (r : Result (Option Told) Refusal) → SearchKindsWith f kinds (long_enough others) r →
+      Judged (given_search_kinds f kinds others) (λ k. r ≡ Refused k) (FoundKinds f kinds r)
   pub window_kinds :
-      (f kinds : List ℕ) (b a : ℕ) (received : List ℕ) (others : List Bytes) (r : WindowKindsResult) →
+      (f kinds : List ℕ) (b a : ℕ) (received : List ℕ) (others : List Bytes) (r : Result KindsAnswer Refusal) →
       WindowKindsWith f kinds b a received (long_enough others) r →
-      Judged (given_window_kinds f kinds b a received others) (λ k. r ≡ window_kinds_result.TheVariants.Refused k)
+      Judged (given_window_kinds f kinds b a received others) (λ k. r ≡ Refused k)
       (AnsweredKinds f kinds b received r)
   pub write :
-      (n i o : ℕ) (entries before : List ℕ) (others : List Bytes) (r : CountResult) (after : List ℕ) →
+      (n i o : ℕ) (entries before : List ℕ) (others : List Bytes) (r : Result ℕ Refusal) (after : List ℕ) →
       WriteWith n i o entries before (long_enough others) r after →
-      Judged (given_write n i o entries before others) (λ k. (r ≡ count_result.TheVariants.Refused k) × (after ≡ before))
-      ((r ≡ count_result.TheVariants.Done (length (file_of n i o entries))) ×
+      Judged (given_write n i o entries before others) (λ k. (r ≡ Refused k) × (after ≡ before))
+      ((r ≡ Ok (length (file_of n i o entries))) ×
       (after ≡ with_front (file_of n i o entries) before))
   pub join :
-      (f g before : List ℕ) (others : List Bytes) (r : CountResult) (after : List ℕ) → JoinWith f g before (long_enough others) r after →
-      Judged (given_join f g before others) (λ k. (r ≡ count_result.TheVariants.Refused k) × (after ≡ before))
-      ((r ≡ count_result.TheVariants.Done (length (joined_file f g))) × (after ≡ with_front (joined_file f g) before))
+      (f g before : List ℕ) (others : List Bytes) (r : Result ℕ Refusal) (after : List ℕ) → JoinWith f g before (long_enough others) r after →
+      Judged (given_join f g before others) (λ k. (r ≡ Refused k) × (after ≡ before))
+      ((r ≡ Ok (length (joined_file f g))) × (after ≡ with_front (joined_file f g) before))
 
 -- ---- demand 2: the machine of the table runs; the answer goes by what fits; letters come back
 
@@ -167,20 +160,20 @@ pub record Demand2 : Type 0 where
   -- first sentence: outputs and end state are those of the file's machine
   pub run :
       (f : List ℕ) (s : ℕ) (xs before : List ℕ) (n e : ℕ) (after : List ℕ) →
-      RunPromise f s xs before (run_result.TheVariants.Done n e) after →
+      RunPromise f s xs before (Ok (run_end n e)) after →
       (n ≡ length xs) × (e ≡ end (machine_of f) s xs) × (take n after ≡ outs (machine_of f) s xs)
   -- second sentence: of one window, of each place of a string, of each index of a table
   pub window :
       (f : List ℕ) (w : Window) (received : List ℕ) (v : Answer) →
-      WindowPromise f w received (window_result.TheVariants.Answered v) → Said (window_setting f w) received w.before (meaning v)
+      WindowPromise f w received (Ok v) → Said (window_setting f w) received w.before (meaning v)
   pub string :
       (f : List ℕ) (w : Window) (received before : List ℕ) (n : ℕ) (after : List ℕ) →
-      StringPromise f w received before (count_result.TheVariants.Done n) after →
+      StringPromise f w received before (Ok n) after →
       (n ≡ places (length received) w) ×
       ((k : ℕ) → k < n → SaidByte (window_setting f w) (take (size w) (drop k received)) w.before (get_or after k 0))
   pub table :
       (f : List ℕ) (w : Window) (before : List ℕ) (n : ℕ) (after : List ℕ) →
-      TablePromise f w before (count_result.TheVariants.Done n) after →
+      TablePromise f w before (Ok n) after →
       (n ≡ table_size (outputs_of f) w) ×
       ((k : ℕ) → k < n → SaidByte (window_setting f w) (window_at (outputs_of f) (size w) k) w.before (get_or after k 0))
   -- of one window from C: the call returned 0, and the host reads the byte from field 0
@@ -220,7 +213,7 @@ pub record Demand3 : Type 0 where
   -- the search in a named order; the search that names none is the one in the default order
   pub search :
       (o : Order) (f : List ℕ) (p : ℕ) (before : List ℕ) (v : Verdict) (after : List ℕ) →
-      SearchPromise o f p before (search_result.TheVariants.Found v) after → Demanded o f p v after
+      SearchPromise o f p before (Ok v) after → Demanded o f p v after
   -- a search from C that returns 0 has such a verdict, by least lookahead (document 02, 1/13), in the fields of its result
   pub search_from_C :
       (f : List ℕ) (p : ℕ) (before result after result' : List ℕ) → SearchFromHost f p before result 0 after result' →

@@ -7,9 +7,9 @@ use Rattle.values.specs.declared.Window.{Window}
 use Rattle.fitting.specs.declared.Answer.{Answer}
 use Rattle.fitting.specs.declared.Answer.TheVariants.{None}
 use Rattle.decoder.specs.Window.{WindowPromise}
-use Rattle.decoder.specs.declared.WindowResult.TheVariants.{Answered}
 use Rattle.decoder_host.specs.Laid.{WindowFromHost}
 use Rattle.layout.specs.Layout.{field_at}
+use Rattle.std.specs.Prelude.{Ok}
 
 -- Some run can produce these letters, seen as a window with the settle count of w sees them: it begins so many letters ahead in a reachable
 -- state, and what it puts out there is unseen.
@@ -27,16 +27,16 @@ pub record CountOf (f : List ℕ) (w : Window) (received : List ℕ) (k : ℕ) :
 pub record CountsOfNone : Type 0 where
   -- what "none" carries, and that no other number is such a count
   pub carried :
-      (f : List ℕ) (w : Window) (received : List ℕ) (k : ℕ) → WindowPromise f w received (Answered (None k)) → CountOf f w received k
+      (f : List ℕ) (w : Window) (received : List ℕ) (k : ℕ) → WindowPromise f w received (Ok (None k)) → CountOf f w received k
   pub one : (f : List ℕ) (w : Window) (received : List ℕ) (k j : ℕ) → CountOf f w received k → CountOf f w received j → k ≡ j
   -- the answer is "none" with some count exactly where no run can produce all letters
   pub exactly :
-      (f : List ℕ) (w : Window) (received : List ℕ) (v : Answer) → WindowPromise f w received (Answered v) →
+      (f : List ℕ) (w : Window) (received : List ℕ) (v : Answer) → WindowPromise f w received (Ok v) →
       ((k : ℕ) × (v ≡ None k)) ↔ (CanProduce f w received → ⊥)
   -- whichever of the letters is the present one
   pub any_place :
-      (f received : List ℕ) (p b a b' a' : ℕ) (k : ℕ) (v : Answer) → WindowPromise f (values.window b a p) received (Answered (None k)) →
-      WindowPromise f (values.window b' a' p) received (Answered v) → v ≡ None k
+      (f received : List ℕ) (p b a b' a' : ℕ) (k : ℕ) (v : Answer) → WindowPromise f (values.window b a p) received (Ok (None k)) →
+      WindowPromise f (values.window b' a' p) received (Ok v) → v ≡ None k
   -- from C: the call returned 0; where field 0 is 254 the host reads the count from field 1, and the other fields stay; where it is not,
   -- all but field 0 stay
   pub carried_from_C :

@@ -11,4 +11,5 @@ pub mod SpareStates
 pub mod Cases
 pub mod Starred
 pub mod Demands
+pub mod Numbers
 pub mod SettleCounts

@@ -4,22 +4,21 @@ use Rattle.mealy.specs.Machine.{end, Letters}
 use Rattle.mealy.specs.Reachable.{Reachable}
 use Rattle.coder.specs.File.{file_refusal, inputs_of, machine_of}
 use Rattle.running.specs.Run.{RunPromise}
-use Rattle.running.specs.declared.RunResult.{RunResult}
-use Rattle.running.specs.declared.RunResult as run
 use Rattle.values.specs.Window.{window, size}
 use Rattle.values.specs.declared.Window.{Window}
 use Rattle.values.specs.declared.Order.{Order}
-use Rattle.values.specs.declared.CountResult.{CountResult}
-use Rattle.values.specs.declared.CountResult.TheVariants.{Done}
 use Rattle.search.specs.Search.{SearchPromise}
 use Rattle.search.specs.declared.Verdict.TheVariants.{Least}
-use Rattle.search.specs.declared.SearchResult.TheVariants.{Found}
 use Rattle.decoder_refusal.specs.Refusal.{places}
 use Rattle.decoder.specs.Places.{StringPromise}
 use Rattle.layout.specs.Layout.{result_bytes, field_at}
 use Rattle.running_host.specs.Laid.{RunFromHost}
 use Rattle.search_host.specs.Laid.{SearchFromHost}
 use Rattle.decoder_host.specs.Laid.{StringFromHost}
+use Rattle.std.specs.Prelude.{Result, Ok}
+use Rattle.coder.specs.declared.refusal.Refusal.{Refusal}
+use Rattle.running.specs.declared.RunEnd.{RunEnd}
+use Rattle.running.specs.Run.{run_end}
 
 -- The letters xs can be coded from state s: the file is accepted, the state is reachable (document 02, 5/13, last sentence), and the
 -- letters are the coder's.
@@ -35,9 +34,9 @@ Back xs w decoded = (k : ℕ) → w.settle ≤ k → k + size w ≤ length xs �
 
 -- What the three calls give, w being the window that the search reports: neither run nor decoder is refused, and the letters are
 -- back.
-pub record RoundTrip (f : List ℕ) (s : ℕ) (xs : List ℕ) (w : Window) (r₁ : RunResult) (r₃ : CountResult) (decoded : List ℕ) : Type 0 where
-  pub ran : r₁ ≡ run.TheVariants.Done (length xs) (end (machine_of f) s xs)
-  pub counted : r₃ ≡ Done (places (length xs) w)
+pub record RoundTrip (f : List ℕ) (s : ℕ) (xs : List ℕ) (w : Window) (r₁ : Result RunEnd Refusal) (r₃ : Result ℕ Refusal) (decoded : List ℕ) : Type 0 where
+  pub ran : r₁ ≡ Ok (run_end (length xs) (end (machine_of f) s xs))
+  pub counted : r₃ ≡ Ok (places (length xs) w)
   pub back : Back xs w decoded
 
 -- For each outcome that the three calls promise, with room in the lent buffers: the run writes to after₁, the search, in whatever order and
@@ -45,9 +44,9 @@ pub record RoundTrip (f : List ℕ) (s : ℕ) (xs : List ℕ) (w : Window) (r₁
 abbrev pub LettersComeBack : Type 0
 LettersComeBack =
     (f : List ℕ) (s : ℕ) (xs : List ℕ) → Coded f s xs →
-    (before₁ : List ℕ) (r₁ : RunResult) (after₁ : List ℕ) → length xs ≤ length before₁ → RunPromise f s xs before₁ r₁ after₁ →
-    (o : Order) (p : ℕ) (before₂ : List ℕ) (w : Window) (after₂ : List ℕ) → SearchPromise o f p before₂ (Found (Least w)) after₂ →
-    (before₃ : List ℕ) (r₃ : CountResult) (after₃ : List ℕ) → places (length xs) w ≤ length before₃ →
+    (before₁ : List ℕ) (r₁ : Result RunEnd Refusal) (after₁ : List ℕ) → length xs ≤ length before₁ → RunPromise f s xs before₁ r₁ after₁ →
+    (o : Order) (p : ℕ) (before₂ : List ℕ) (w : Window) (after₂ : List ℕ) → SearchPromise o f p before₂ (Ok (Least w)) after₂ →
+    (before₃ : List ℕ) (r₃ : Result ℕ Refusal) (after₃ : List ℕ) → places (length xs) w ≤ length before₃ →
     StringPromise f w (take (length xs) after₁) before₃ r₃ after₃ →
     RoundTrip f s xs w r₁ r₃ after₃
 

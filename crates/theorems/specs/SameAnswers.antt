@@ -2,25 +2,26 @@
 -- and the same arguments besides; refusals too.
 use Rattle.std.specs.Prelude.{ℕ, ◌≡◌, Bool, List}
 use Rattle.values.specs.Window as values
-use Rattle.values.specs.declared.CountResult.{CountResult}
 use Rattle.decoder.specs.Window.{WindowWith}
 use Rattle.decoder.specs.Places.{StringWith}
 use Rattle.decoder.specs.Table.{TableWith}
-use Rattle.decoder.specs.declared.WindowResult.{WindowResult}
 use Rattle.decoder_host.specs.Laid.{StringFromHost, TableFromHost, WindowFromHost}
+use Rattle.std.specs.Prelude.{Result}
+use Rattle.coder.specs.declared.refusal.Refusal.{Refusal}
+use Rattle.fitting.specs.declared.Answer.{Answer}
 
 -- Two outcomes of one call are equal, whatever other buffers are lent: result, and every lent byte.
 module _ (f f' : List ℕ) (p p' : ℕ) where
   pub record SameAnswers : Type 0 where
     pub window :
-        (b a : ℕ) (received : List ℕ) (others : Bool) (r r' : WindowResult) → WindowWith f (values.window b a p) received others r →
+        (b a : ℕ) (received : List ℕ) (others : Bool) (r r' : Result Answer Refusal) → WindowWith f (values.window b a p) received others r →
         WindowWith f' (values.window b a p') received others r' → r ≡ r'
     pub string :
-        (b a : ℕ) (received before : List ℕ) (others : Bool) (r r' : CountResult) (after after' : List ℕ) →
+        (b a : ℕ) (received before : List ℕ) (others : Bool) (r r' : Result ℕ Refusal) (after after' : List ℕ) →
         StringWith f (values.window b a p) received before others r after →
         StringWith f' (values.window b a p') received before others r' after' → (r ≡ r') × (after ≡ after')
     pub table :
-        (b a : ℕ) (before : List ℕ) (others : Bool) (r r' : CountResult) (after after' : List ℕ) →
+        (b a : ℕ) (before : List ℕ) (others : Bool) (r r' : Result ℕ Refusal) (after after' : List ℕ) →
         TableWith f (values.window b a p) before others r after → TableWith f' (values.window b a p') before others r' after' →
         (r ≡ r') × (after ≡ after')
 

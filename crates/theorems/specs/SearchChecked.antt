@@ -8,13 +8,13 @@ use Rattle.values.specs.declared.Order.{Order}
 use Rattle.values.specs.declared.LoopedPair.{LoopedPair}
 use Rattle.search.specs.Search.{SearchPromise}
 use Rattle.search_host.specs.Laid.{SearchFromHost}
-use Rattle.search.specs.declared.SearchResult.TheVariants.{Found}
 use Rattle.search.specs.declared.Verdict.TheVariants.{NoDecoder}
 use Rattle.checker.specs.Check.{CheckPromise}
 use Rattle.checker_host.specs.Laid.{CheckFromHost}
-use Rattle.checker.specs.declared.CheckResult.{CheckResult}
-use Rattle.checker.specs.declared.CheckResult.TheVariants.{Checked}
 use Rattle.layout.specs.Layout.{field_at}
+use Rattle.std.specs.Prelude.{Result, Ok}
+use Rattle.coder.specs.declared.refusal.Refusal.{Refusal}
+use Rattle.std.specs.Prelude.{Bool}
 
 -- The bytes of a pair's letters: the first ones of the buffer.
 abbrev pub letters_in : LoopedPair → List ℕ → List ℕ
@@ -35,11 +35,11 @@ pair_read result =
 pub record SearchChecked : Type 0 where
   -- the check of that pair with the bytes of its letters is not refused and says yes
   pub checked :
-      (o : Order) (f : List ℕ) (p : ℕ) (before : List ℕ) (q : LoopedPair) (after : List ℕ) (r : CheckResult) →
-      SearchPromise o f p before (Found (NoDecoder q)) after → CheckPromise f (pair_of q (letters_in q after)) r → r ≡ Checked true
+      (o : Order) (f : List ℕ) (p : ℕ) (before : List ℕ) (q : LoopedPair) (after : List ℕ) (r : Result Bool Refusal) →
+      SearchPromise o f p before (Ok (NoDecoder q)) after → CheckPromise f (pair_of q (letters_in q after)) r → r ≡ Ok true
   pub bounds :
       (o : Order) (f : List ℕ) (p : ℕ) (before : List ℕ) (q : LoopedPair) (after : List ℕ) →
-      SearchPromise o f p before (Found (NoDecoder q)) after → PairBounds f q
+      SearchPromise o f p before (Ok (NoDecoder q)) after → PairBounds f q
   -- from C: the search returned 0 with 1 in field 0; with fields 1 to 6 and the bytes of the letters the check returns 0, with 1 in field 0
   pub checked_from_C :
       (f : List ℕ) (p : ℕ) (before result after given : List ℕ) → SearchFromHost f p before result 0 after given → field_at given 0 ≡ 1 →

@@ -13,27 +13,27 @@ use Rattle.values.specs.declared.LoopedPair.{LoopedPair}
 use Rattle.search.specs.Search.{IsNoDecoder, SearchWith, SearchPromise}
 use Rattle.search.specs.declared.Verdict.{Verdict}
 use Rattle.search.specs.declared.Verdict.TheVariants.{Least, NoDecoder}
-use Rattle.search.specs.declared.SearchResult.{SearchResult}
-use Rattle.search.specs.declared.SearchResult.TheVariants.{Refused, Found}
 use Rattle.layout.specs.Layout.{field_at}
 use Rattle.search_host.specs.Laid.{SearchFromHost}
 use Rattle.theorems.specs.RoundTrip.{window_read}
 use Rattle.theorems.specs.Demands.{NoLater}
 use Rattle.theorems.specs.SameAnswers.{SameAnswers, SameAnswersFromC}
+use Rattle.std.specs.Prelude.{Result, Ok, Err}
+use Rattle.coder.specs.declared.refusal.Refusal.{Refusal}
 
 -- the same verdict, and the same result of a search, with the settle count p in a reported window
 abbrev pub verdict_with : ℕ → Verdict → Verdict
 verdict_with p (Least w) = Least (values.window w.before w.after p)
 verdict_with p (NoDecoder q) = NoDecoder q
 
-abbrev pub result_with : ℕ → SearchResult → SearchResult
-result_with p (Refused k) = Refused k
-result_with p (Found v) = Found (verdict_with p v)
+abbrev pub result_with : ℕ → Result Verdict Refusal → Result Verdict Refusal
+result_with p (Err e) = Err e
+result_with p (Ok v) = Ok (verdict_with p v)
 
 -- Two settle counts of an accepted file with which everything is the same: the search reports windows with the same sides.
 pub record SameWith (f : List ℕ) (p p' : ℕ) : Type 0 where
   pub search :
-      (o : Order) (before : List ℕ) (others : Bool) (r r' : SearchResult) (after after' : List ℕ) → SearchWith o f p before others r after →
+      (o : Order) (before : List ℕ) (others : Bool) (r r' : Result Verdict Refusal) (after after' : List ℕ) → SearchWith o f p before others r after →
       SearchWith o f p' before others r' after' → (result_with p' r ≡ r') × (after ≡ after')
   pub search_from_C :
       (before result : List ℕ) (r r' : ℕ) (after after' given given' : List ℕ) → SearchFromHost f p before result r after given →
@@ -49,11 +49,11 @@ pub record SettleCounts : Type 0 where
   -- existence: with any two settle counts, in any two orders, both searches report a window, or neither does
   pub existence :
       (o o' : Order) (f : List ℕ) (p p' : ℕ) (before before' : List ℕ) (v v' : Verdict) (after after' : List ℕ) →
-      SearchPromise o f p before (Found v) after → SearchPromise o' f p' before' (Found v') after' → IsNoDecoder v ↔ IsNoDecoder v'
+      SearchPromise o f p before (Ok v) after → SearchPromise o' f p' before' (Ok v') after' → IsNoDecoder v ↔ IsNoDecoder v'
   -- of two settle counts, the larger gives no later window in the order used
   pub larger_no_later :
       (o : Order) (f : List ℕ) (p p' : ℕ) (before before' : List ℕ) (w w' : Window) (after after' : List ℕ) → p ≤ p' →
-      SearchPromise o f p before (Found (Least w)) after → SearchPromise o f p' before' (Found (Least w')) after' →
+      SearchPromise o f p before (Ok (Least w)) after → SearchPromise o f p' before' (Ok (Least w')) after' →
       NoLater o w' w.before w.after
   -- from 15 to 64, as a coder has at most 16 states
   pub from_15 :
@@ -61,7 +61,7 @@ pub record SettleCounts : Type 0 where
   -- the looped pair, with any two settle counts and in any two orders
   pub pair :
       (o o' : Order) (f : List ℕ) (p p' : ℕ) (before : List ℕ) (q q' : LoopedPair) (after after' : List ℕ) →
-      SearchPromise o f p before (Found (NoDecoder q)) after → SearchPromise o' f p' before (Found (NoDecoder q')) after' →
+      SearchPromise o f p before (Ok (NoDecoder q)) after → SearchPromise o' f p' before (Ok (NoDecoder q')) after' →
       (q ≡ q') × (after ≡ after')
   -- from C: field 0 says whether there is a window, of which fields 1 and 2 are the sides
   pub existence_from_C :

@@ -12,19 +12,19 @@ use Rattle.mealy.specs.LoopedPair.{LoopedPair, Run, start_of, Valid}
 use Rattle.mealy.specs.First.{First}
 use Rattle.coder.specs.File.{file_refusal, states_of, outputs_of, machine_of, setting_of, setting_after}
 use Rattle.running.specs.Run.{RunWith}
-use Rattle.running.specs.declared.RunResult.{RunResult}
 use Rattle.values.specs.Order.{relation_of}
 use Rattle.values.specs.declared.Order.{Order}
 use Rattle.search.specs.Search.{SearchWith}
-use Rattle.search.specs.declared.SearchResult.{SearchResult}
 use Rattle.checker.specs.Check.{check_refusal, CheckWith, CheckPromise}
-use Rattle.checker.specs.declared.CheckResult.{CheckResult}
-use Rattle.checker.specs.declared.CheckResult.TheVariants.{Checked}
 use Rattle.running_host.specs.Laid.{RunFromHost}
 use Rattle.search_host.specs.Laid.{SearchFromHost}
 use Rattle.checker_host.specs.Laid.{CheckFromHost}
 use Rattle.layout.specs.Layout.{field_at}
 use Rattle.theorems.specs.SameAnswers.{SameAnswers, SameAnswersFromC}
+use Rattle.std.specs.Prelude.{Result, Ok}
+use Rattle.coder.specs.declared.refusal.Refusal.{Refusal}
+use Rattle.running.specs.declared.RunEnd.{RunEnd}
+use Rattle.search.specs.declared.Verdict.{Verdict}
 
 -- Both files are accepted, and they differ in spare states alone: the same entries at each state that is reachable, and any at the others.
 -- The second has at least as many states.
@@ -40,16 +40,16 @@ module _ (f f' : List ℕ) where
   pub record SameOutcomes : Type 0 where
     -- from a reachable state
     pub run :
-        (s : ℕ) (xs before : List ℕ) (others : Bool) (r r' : RunResult) (after after' : List ℕ) → Reachable (machine_of f) s →
+        (s : ℕ) (xs before : List ℕ) (others : Bool) (r r' : Result RunEnd Refusal) (after after' : List ℕ) → Reachable (machine_of f) s →
         RunWith f s xs before others r after → RunWith f' s xs before others r' after' → (r ≡ r') × (after ≡ after')
     pub search :
-        (o : Order) (p : ℕ) (before : List ℕ) (others : Bool) (r r' : SearchResult) (after after' : List ℕ) →
+        (o : Order) (p : ℕ) (before : List ℕ) (others : Bool) (r r' : Result Verdict Refusal) (after after' : List ℕ) →
         SearchWith o f p before others r after → SearchWith o f' p before others r' after' → (r ≡ r') × (after ≡ after')
     -- of single windows, strings and tables
     pub answers : (p : ℕ) → SameAnswers f f' p p
     -- of pairs that start in states of the first file: those of the second alone it refuses with 7
     pub check :
-        (q : LoopedPair) (others : Bool) (r r' : CheckResult) → ((u : Run) → start_of q u < states_of f) → CheckWith f q others r →
+        (q : LoopedPair) (others : Bool) (r r' : Result Bool Refusal) → ((u : Run) → start_of q u < states_of f) → CheckWith f q others r →
         CheckWith f' q others r' → r ≡ r'
 
   pub record SameOutcomesFromC : Type 0 where
@@ -76,8 +76,8 @@ pub record AsInDocument01 (f : List ℕ) : Type 0 where
 pub record SpareStates : Type 0 where
   -- a pair that is not refused, of which one start state or both are not reachable
   pub checked :
-      (f : List ℕ) (q : LoopedPair) (r : CheckResult) (u : Run) → check_refusal f q true ≡ 0 → CheckPromise f q r →
-      (Reachable (machine_of f) (start_of q u) → ⊥) → r ≡ Checked false
+      (f : List ℕ) (q : LoopedPair) (r : Result Bool Refusal) (u : Run) → check_refusal f q true ≡ 0 → CheckPromise f q r →
+      (Reachable (machine_of f) (start_of q u) → ⊥) → r ≡ Ok false
   -- from C: such a check returns 0, and the host reads 0 from field 0
   pub checked_from_C :
       (f : List ℕ) (q : LoopedPair) (result : List ℕ) (r : ℕ) (result' : List ℕ) (u : Run) → check_refusal f q true ≡ 0 →

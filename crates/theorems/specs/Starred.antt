@@ -7,34 +7,30 @@ use Rattle.mealy.specs.LoopedPair as mealy
 use Rattle.coder.specs.File.{states_of, inputs_of, machine_of}
 use Rattle.reader.specs.Read.{header_of}
 use Rattle.reader.specs.declared.Header.{Header}
-use Rattle.reader.specs.declared.Header.TheVariants.{Counts}
 use Rattle.running.specs.Run.{RunPromise}
-use Rattle.running.specs.declared.RunResult.{RunResult}
-use Rattle.running.specs.declared.RunResult as run_result
 use Rattle.values.specs.Window as values
 use Rattle.values.specs.Order.{default_order}
 use Rattle.values.specs.declared.Order.{Order}
 use Rattle.values.specs.declared.Order.TheVariants.{FewestLetters}
 use Rattle.values.specs.Pair.{looped_pair}
-use Rattle.values.specs.declared.CountResult.{CountResult}
-use Rattle.values.specs.declared.CountResult.TheVariants.{Done}
 use Rattle.fitting.specs.declared.Answer.{Answer}
 use Rattle.fitting.specs.declared.Answer.TheVariants.{Letter, None, Several}
 use Rattle.decoder.specs.Window.{WindowPromise}
 use Rattle.decoder.specs.Places.{StringPromise}
 use Rattle.decoder.specs.Table.{TablePromise}
-use Rattle.decoder.specs.declared.WindowResult.{WindowResult}
-use Rattle.decoder.specs.declared.WindowResult.TheVariants.{Answered}
 use Rattle.placing.specs.Placed.{with_front}
 use Rattle.writer.specs.Write.{WroteFile, WritePromise}
 use Rattle.search.specs.Search.{SearchPromise}
 use Rattle.search.specs.declared.Verdict.TheVariants.{Least, NoDecoder}
-use Rattle.search.specs.declared.SearchResult.{SearchResult}
-use Rattle.search.specs.declared.SearchResult.TheVariants.{Found}
 use Rattle.checker.specs.Check.{CheckPromise}
-use Rattle.checker.specs.declared.CheckResult.{CheckResult}
-use Rattle.checker.specs.declared.CheckResult.TheVariants.{Checked}
 use Rattle.theorems.specs.Cases.{Case}
+use Rattle.std.specs.Prelude.{Result, Ok}
+use Rattle.coder.specs.declared.refusal.Refusal.{Refusal}
+use Rattle.running.specs.declared.RunEnd.{RunEnd}
+use Rattle.running.specs.Run.{run_end}
+use Rattle.search.specs.declared.Verdict.{Verdict}
+use Rattle.reader.specs.Read.{header}
+use Rattle.std.specs.Prelude.{Bool}
 
 pub data Claim : Type 0 where
   -- the reader gives these counts
@@ -65,31 +61,31 @@ pair s t bytes = record { s = s; t = t; back_loop = 1; lead_in = 0; lead_out = 0
 
 -- What each claim says of a file; of the calls that write, for lent buffers that are long enough.
 abbrev pub Holds : List ℕ → Claim → Type 0
-Holds f (counts n i o) = (r : Header) → r ≡ header_of f → r ≡ Counts n i o
+Holds f (counts n i o) = (r : Result Header Refusal) → r ≡ header_of f → r ≡ Ok (header n i o)
 Holds f (written n i o entries) =
-    (before : List ℕ) (r : CountResult) (after : List ℕ) → length f ≤ length before → WritePromise n i o entries before r after →
+    (before : List ℕ) (r : Result ℕ Refusal) (after : List ℕ) → length f ≤ length before → WritePromise n i o entries before r after →
     WroteFile f before r after
 Holds f (window o b a p) =
-    (before : List ℕ) (r : SearchResult) (after : List ℕ) → 1026 ≤ length before → SearchPromise o f p before r after →
-    (r ≡ Found (Least (values.window b a p))) × (after ≡ before)
+    (before : List ℕ) (r : Result Verdict Refusal) (after : List ℕ) → 1026 ≤ length before → SearchPromise o f p before r after →
+    (r ≡ Ok (Least (values.window b a p))) × (after ≡ before)
 Holds f (no_decoder s t bytes) =
-    ((o : Order) (p : ℕ) (before : List ℕ) (r : SearchResult) (after : List ℕ) → p ≤ 64 → 1026 ≤ length before →
+    ((o : Order) (p : ℕ) (before : List ℕ) (r : Result Verdict Refusal) (after : List ℕ) → p ≤ 64 → 1026 ≤ length before →
     SearchPromise o f p before r after →
-    (r ≡ Found (NoDecoder (looped_pair s t 1 0 0 1))) × (after ≡ with_front bytes before)) ×
-    ((r : CheckResult) → CheckPromise f (pair s t bytes) r → r ≡ Checked true)
-Holds f (not_valid s t bytes) = (r : CheckResult) → CheckPromise f (pair s t bytes) r → r ≡ Checked false
+    (r ≡ Ok (NoDecoder (looped_pair s t 1 0 0 1))) × (after ≡ with_front bytes before)) ×
+    ((r : Result Bool Refusal) → CheckPromise f (pair s t bytes) r → r ≡ Ok true)
+Holds f (not_valid s t bytes) = (r : Result Bool Refusal) → CheckPromise f (pair s t bytes) r → r ≡ Ok false
 Holds f different_outputs =
     (s i j : ℕ) → s < states_of f → i < inputs_of f → j < inputs_of f → i ≢ j → (machine_of f).out s i ≢ (machine_of f).out s j
-Holds f (answer b a p received v) = (r : WindowResult) → WindowPromise f (values.window b a p) received r → r ≡ Answered v
+Holds f (answer b a p received v) = (r : Result Answer Refusal) → WindowPromise f (values.window b a p) received r → r ≡ Ok v
 Holds f (string b a p received bytes) =
-    (before : List ℕ) (r : CountResult) (after : List ℕ) → length bytes ≤ length before →
-    StringPromise f (values.window b a p) received before r after → (r ≡ Done (length bytes)) × (after ≡ with_front bytes before)
+    (before : List ℕ) (r : Result ℕ Refusal) (after : List ℕ) → length bytes ≤ length before →
+    StringPromise f (values.window b a p) received before r after → (r ≡ Ok (length bytes)) × (after ≡ with_front bytes before)
 Holds f (table b a p bytes) =
-    (before : List ℕ) (r : CountResult) (after : List ℕ) → length bytes ≤ length before →
-    TablePromise f (values.window b a p) before r after → (r ≡ Done (length bytes)) × (after ≡ with_front bytes before)
+    (before : List ℕ) (r : Result ℕ Refusal) (after : List ℕ) → length bytes ≤ length before →
+    TablePromise f (values.window b a p) before r after → (r ≡ Ok (length bytes)) × (after ≡ with_front bytes before)
 Holds f (run s xs os e) =
-    (before : List ℕ) (r : RunResult) (after : List ℕ) → length xs ≤ length before → RunPromise f s xs before r after →
-    (r ≡ run_result.TheVariants.Done (length xs) e) × (after ≡ os ++ drop (length xs) before)
+    (before : List ℕ) (r : Result RunEnd Refusal) (after : List ℕ) → length xs ≤ length before → RunPromise f s xs before r after →
+    (r ≡ Ok (run_end (length xs) e)) × (after ≡ os ++ drop (length xs) before)
 
 abbrev pub starred : List (Case Claim)
 starred =

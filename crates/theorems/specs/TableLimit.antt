@@ -4,13 +4,14 @@ use Rattle.std.specs.Prelude.{ℕ, ◌≤◌, ◌<◌, ◌≡◌, false, ◌↔�
 use Rattle.coder.specs.File.{outputs_of}
 use Rattle.values.specs.Window.{size}
 use Rattle.values.specs.declared.Window.{Window}
-use Rattle.values.specs.declared.CountResult.{CountResult}
-use Rattle.values.specs.declared.CountResult.TheVariants.{Refused}
 use Rattle.table_size.specs.Cases.{table_allowed}
 use Rattle.window_limits.specs.Refusal.{SidesSmall}
 use Rattle.decoder_refusal.specs.Refusal.{limits_refusal, table_size}
 use Rattle.decoder.specs.Table.{TablePromise}
 use Rattle.decoder_host.specs.Laid.{TableFromHost}
+use Rattle.std.specs.Prelude.{Result}
+use Rattle.coder.specs.declared.refusal.Refusal.{Refusal}
+use Rattle.coder.specs.Refused.{Refused}
 
 -- For every O from 1 to 64 and every window that a call may name: the cases refuse its table exactly where that would have more than
 -- 65,536 bytes.
@@ -27,7 +28,7 @@ pub record TableLimit : Type 0 where
   pub exact : CasesExact
   -- whatever the lent buffers
   pub call :
-      (f : List ℕ) (w : Window) (before : List ℕ) (r : CountResult) (after : List ℕ) → TablePromise f w before r after →
+      (f : List ℕ) (w : Window) (before : List ℕ) (r : Result ℕ Refusal) (after : List ℕ) → TablePromise f w before r after →
       r ≡ Refused 10 ↔ RefusedByCases f w
   pub call_from_C :
       (f : List ℕ) (w : Window) (before result : List ℕ) (r : ℕ) (after result' : List ℕ) →

@@ -9,14 +9,14 @@ use lib.ListN.{length, get_or, take, drop}
 use lib.Dec.{lit<, lit≤}
 use Rattle.coder.specs.Refusal.{all_below}
 use Rattle.coder.proofs.Refusals.{true_false, all_at}
-use Rattle.values.specs.declared.CountResult.{CountResult}
-use Rattle.values.specs.declared.CountResult.TheVariants.{Done}
 use Rattle.decoder.specs.Places.{StringPromise}
 use Rattle.theorems_damage.specs.Change.{Change, kept, altered, lost, added, KeptAt}
 use Rattle.theorems_damage.specs.Damage.{StringDecoded, SameByte, AsUndamaged, Undamaged}
 use Rattle.theorems_damage.specs.Examples.{Example, Holds, spliced, delayed, noticed, settled}
 use Rattle.theorems_damage.proofs.Examples.{examples_hold}
 use Rattle.theorems_damage.proofs.Travel.{damage_does_not_travel}
+use Rattle.std.specs.Prelude.{Result, Ok}
+use Rattle.coder.specs.declared.refusal.Refusal.{Refusal}
 
 -- ---- letters that were kept, by a test
 
@@ -109,8 +109,8 @@ settled_same =
 
 -- Its call is not refused: each letter altered to or added is below O.
 pub settled_accepted :
-    (before after : List ℕ) (r : CountResult) → 8 ≤ length before →
-    StringPromise settled.file settled.window settled.arrives before r after → r ≡ Done 8
+    (before after : List ℕ) (r : Result ℕ Refusal) → 8 ≤ length before →
+    StringPromise settled.file settled.window settled.arrives before r after → r ≡ Ok 8
 settled_accepted before after r room call =
     damage_does_not_travel.accepted settled.file settled.window settled.changes 7 settled.bytes
     examples_hold.1.1.1.0.own.undamaged

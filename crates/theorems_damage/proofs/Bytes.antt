@@ -11,12 +11,12 @@ use Rattle.values.specs.declared.Window.{Window}
 use Rattle.decoder_refusal.specs.Refusal.{places, string_refusal_in}
 use Rattle.decoder_refusal.proofs.Accepting.{string_others}
 use Rattle.decoder.specs.Places.{ByteAt}
-use Rattle.values.specs.declared.CountResult.TheVariants.{Done}
 use Rattle.layout.specs.Layout.{with_fields, field_at}
 use Rattle.layout.proofs.Reading.{field_at_lem}
 use Rattle.theorems.specs.RoundTrip.{FieldHolds}
 use Rattle.theorems.proofs.Counted.{Counted, counted, counted_from_C}
 use Rattle.theorems_damage.specs.Damage.{Calls, StringDecoded, StringDecodedFromC}
+use Rattle.std.specs.Prelude.{Ok}
 
 pub record DecodedRight (f : List ℕ) (w : Window) (letters : List ℕ) (count : ℕ) (after : List ℕ) : Type 0 where
   pub all : count ≡ places (length letters) w
@@ -64,7 +64,7 @@ host_decodes f w letters count after few d =
       before = d.before;
       result = replicate 64 0;
       result' = with_fields (replicate 64 0) (count ∷ []);
-      call = record { own = Done count; promised = d.call; out = record { number = refl; fields = refl } };
+      call = record { own = Ok count; promised = d.call; out = record { number = refl; fields = refl } };
       few = few;
       read = sym (field_at_lem (replicate 64 0) (count ∷ []) 0 (lit< tt) (omega (arith, c.count)));
     }

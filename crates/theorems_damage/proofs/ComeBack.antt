@@ -16,7 +16,6 @@ use Rattle.values.specs.declared.Window.{Window}
 use Rattle.values.specs.declared.Order.{Order}
 use Rattle.search.specs.Search.{SearchPromise}
 use Rattle.search.specs.declared.Verdict.TheVariants.{Least}
-use Rattle.search.specs.declared.SearchResult.TheVariants.{Found}
 use Rattle.search.proofs.Determined.{found}
 use Rattle.decoder.specs.Window.{window_setting}
 use Rattle.decoder.proofs.ComeBack.{place_comes_back}
@@ -30,6 +29,7 @@ use Rattle.theorems_damage.specs.Damage.{DamagedComeBack, DamagedComeBackFromC}
 use Rattle.theorems_damage.proofs.Changes.{same_part}
 use Rattle.theorems_damage.proofs.Bytes.{RightCalls, decoded, decoded_from_C}
 use Rattle.theorems_damage.proofs.Travel.{received_byte, altered_kept, unsettled_kept, settled_window}
+use Rattle.std.specs.Prelude.{Ok}
 
 -- of a coded string and a window that works, for all calls that decode rightly
 module _ (f : List ℕ) (w : Window) (D : Calls) (right : RightCalls f w D) (s : ℕ) (xs : List ℕ) (coded : Coded f s xs)
@@ -56,7 +56,7 @@ module _ (f : List ℕ) (w : Window) (D : Calls) (right : RightCalls f w D) (s :
 
 reported_works :
     (o : Order) (f : List ℕ) (p : ℕ) (before : List ℕ) (w : Window) (after : List ℕ) →
-    SearchPromise o f p before (Found (Least w)) after → Works (window_setting f w) w.before w.after
+    SearchPromise o f p before (Ok (Least w)) after → Works (window_setting f w) w.before w.after
 reported_works o f p before w after q =
     let report = (found o f p before (Least w) after q).says in
     rw report.settle report.least.works

@@ -24,7 +24,6 @@ use Rattle.starts.proofs.Computed.{in_steps_word, starts_word}
 use Rattle.window_limits.specs.Refusal.{sides_refusal, settle_refusal}
 use Rattle.decoder_refusal.specs.Refusal.{limits_refusal, string_refusal}
 use Rattle.values.specs.declared.Window.{Window}
-use Rattle.values.specs.declared.CountResult.{CountResult}
 use Rattle.decoder.specs.Places.{StringPromise}
 use Rattle.decoder.proofs.Determined.{string_exists}
 use Rattle.theorems.specs.RoundTrip.{FieldHolds}
@@ -35,6 +34,8 @@ use Rattle.theorems_damage.specs.Change.{sent, received}
 use Rattle.theorems_damage.specs.Damage.{StringDecoded}
 use Rattle.theorems_damage.specs.Examples.{Example, Holds, EachHolds, examples}
 use Rattle.theorems_damage.proofs.Bytes.{host_decodes}
+use Rattle.std.specs.Prelude.{Result}
+use Rattle.coder.specs.declared.refusal.Refusal.{Refusal}
 
 -- ---- the test of an example
 
@@ -49,7 +50,7 @@ string_decoded f w letters bytes z e =
     record { before = bytes; call = as_called r.0 (r.1 ∙ all) x.2 }
   where
     as_called :
-        {r r' : CountResult} {after after' : List ℕ} → r ≡ r' → after ≡ after' → StringPromise f w letters bytes r after →
+        {r r' : Result ℕ Refusal} {after after' : List ℕ} → r ≡ r' → after ≡ after' → StringPromise f w letters bytes r after →
         StringPromise f w letters bytes r' after'
     as_called d d' p = rw d' at (rw d at p)
 

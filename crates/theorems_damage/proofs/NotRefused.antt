@@ -6,8 +6,6 @@ use Prim.Native.Nat.{ℕ, ◌≤◌}
 use lib.ListN.{length}
 use Rattle.coder.specs.File.{outputs_of}
 use Rattle.values.specs.declared.Window.{Window}
-use Rattle.values.specs.declared.CountResult.{CountResult}
-use Rattle.values.specs.declared.CountResult.TheVariants.{Done}
 use Rattle.decoder_refusal.specs.Refusal.{places, string_refusal_in}
 use Rattle.decoder_refusal.proofs.Accepting.{string_accepted, limits_pass}
 use Rattle.decoder.specs.Places.{StringWith, StringPromise}
@@ -18,6 +16,8 @@ use Rattle.layout.proofs.Hosting.{from_host}
 use Rattle.theorems.proofs.RoundTrip.{string_pass}
 use Rattle.theorems_damage.specs.Change.{Change, sent, received, NewBelow, Each}
 use Rattle.theorems_damage.proofs.Changes.{received_below}
+use Rattle.std.specs.Prelude.{Result, Ok}
+use Rattle.coder.specs.declared.refusal.Refusal.{Refusal}
 
 module _ (f : List ℕ) (w : Window) (cs : List Change) (room : ℕ) (accepted : string_refusal_in f w (sent cs) room true ≡ 0)
     (below : Each (NewBelow (outputs_of f)) cs) (before : List ℕ) (enough : places (length (received cs)) w ≤ length before) where
@@ -30,7 +30,7 @@ module _ (f : List ℕ) (w : Window) (cs : List Change) (room : ℕ) (accepted :
       (received_below (outputs_of f) cs below a.letters)
 
   pub not_refused :
-      (r : CountResult) (after : List ℕ) → StringPromise f w (received cs) before r after → r ≡ Done (places (length (received cs)) w)
+      (r : Result ℕ Refusal) (after : List ℕ) → StringPromise f w (received cs) before r after → r ≡ Ok (places (length (received cs)) w)
   not_refused r after p = rw none at p.result
 
   pub not_refused_from_C :
@@ -38,4 +38,4 @@ module _ (f : List ℕ) (w : Window) (cs : List Change) (room : ℕ) (accepted :
       StringFromHost f w (received cs) before result r after result' → r ≡ 0
   not_refused_from_C result result' r after long h =
       let g = from_host (λ others own. StringWith f w (received cs) before others own after) laid_count long h in
-      g.out.number ∙ ap (λ (x : CountResult). (laid_count x).returned) (not_refused g.own after g.promised)
+      g.out.number ∙ ap (λ (x : Result ℕ Refusal). (laid_count x).returned) (not_refused g.own after g.promised)

@@ -4,16 +4,12 @@
 use Rattle.std.specs.Prelude.{ℕ, ◌+◌, ◌≤◌, ◌<◌, ◌≡◌, List, ◌++◌, length, get_or, take}
 use Rattle.coder.specs.File.{outputs_of}
 use Rattle.running.specs.Run.{RunPromise}
-use Rattle.running.specs.declared.RunResult.{RunResult}
 use Rattle.running_host.specs.Laid.{RunFromHost}
 use Rattle.values.specs.Window.{size}
 use Rattle.values.specs.declared.Window.{Window}
 use Rattle.values.specs.declared.Order.{Order}
-use Rattle.values.specs.declared.CountResult.{CountResult}
-use Rattle.values.specs.declared.CountResult.TheVariants.{Done}
 use Rattle.search.specs.Search.{SearchPromise}
 use Rattle.search.specs.declared.Verdict.TheVariants.{Least}
-use Rattle.search.specs.declared.SearchResult.TheVariants.{Found}
 use Rattle.search_host.specs.Laid.{SearchFromHost}
 use Rattle.decoder_refusal.specs.Refusal.{places}
 use Rattle.decoder.specs.Places.{StringPromise}
@@ -21,13 +17,16 @@ use Rattle.decoder_host.specs.Laid.{StringFromHost}
 use Rattle.layout.specs.Layout.{result_bytes, field_at}
 use Rattle.theorems.specs.RoundTrip.{Coded, FieldHolds, window_read}
 use Rattle.theorems_damage.specs.Change.{Change, sent, received, Keeps, InPlace, NewBelow, Each, KeptAt, AlteredAt, KeptFrom}
+use Rattle.std.specs.Prelude.{Result, Ok}
+use Rattle.coder.specs.declared.refusal.Refusal.{Refusal}
+use Rattle.running.specs.declared.RunEnd.{RunEnd}
 
 -- ---- a call that is not refused
 
 -- The string decoder, given a file, a window with its settle count, and these letters, returned this count and left these bytes.
 pub record StringDecoded (f : List ℕ) (w : Window) (letters : List ℕ) (count : ℕ) (after : List ℕ) : Type 0 where
   pub before : List ℕ
-  pub call : StringPromise f w letters before (Done count) after
+  pub call : StringPromise f w letters before (Ok count) after
 
 -- The same from C: it returned 0, and the host reads the count from field 0.
 pub record StringDecodedFromC (f : List ℕ) (w : Window) (letters : List ℕ) (count : ℕ) (after : List ℕ) : Type 0 where
@@ -99,9 +98,9 @@ pub record DamageDoesNotTravel : Type 0 where
   -- refuses the damaged one
   pub accepted :
       (f : List ℕ) (w : Window) (cs : List Change) (count : ℕ) (after : List ℕ) → StringDecoded f w (sent cs) count after →
-      Each (NewBelow (outputs_of f)) cs → (before' : List ℕ) (r' : CountResult) (after' : List ℕ) →
+      Each (NewBelow (outputs_of f)) cs → (before' : List ℕ) (r' : Result ℕ Refusal) (after' : List ℕ) →
       places (length (received cs)) w ≤ length before' → StringPromise f w (received cs) before' r' after' →
-      r' ≡ Done (places (length (received cs)) w)
+      r' ≡ Ok (places (length (received cs)) w)
   pub accepted_from_C :
       (f : List ℕ) (w : Window) (cs : List Change) (count : ℕ) (after : List ℕ) → StringDecodedFromC f w (sent cs) count after →
       Each (NewBelow (outputs_of f)) cs → (before' result result' : List ℕ) (r' : ℕ) (after' : List ℕ) →
@@ -140,8 +139,8 @@ pub record DamagedBack (w : Window) (D : Calls) (xs coded : List ℕ) : Type 0 w
 abbrev pub DamagedComeBack : Type 0
 DamagedComeBack =
     (f : List ℕ) (s : ℕ) (xs : List ℕ) → Coded f s xs →
-    (before₁ : List ℕ) (r₁ : RunResult) (after₁ : List ℕ) → length xs ≤ length before₁ → RunPromise f s xs before₁ r₁ after₁ →
-    (o : Order) (p : ℕ) (before₂ : List ℕ) (w : Window) (after₂ : List ℕ) → SearchPromise o f p before₂ (Found (Least w)) after₂ →
+    (before₁ : List ℕ) (r₁ : Result RunEnd Refusal) (after₁ : List ℕ) → length xs ≤ length before₁ → RunPromise f s xs before₁ r₁ after₁ →
+    (o : Order) (p : ℕ) (before₂ : List ℕ) (w : Window) (after₂ : List ℕ) → SearchPromise o f p before₂ (Ok (Least w)) after₂ →
     DamagedBack w (StringDecoded f w) xs (take (length xs) after₁)
 
 -- The same from C, with the window and the number of letters sent as the host reads them.

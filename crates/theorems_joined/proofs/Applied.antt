@@ -13,10 +13,6 @@ use Rattle.values.specs.declared.Window.{Window}
 use Rattle.search.specs.Search.{SearchPromise}
 use Rattle.search.specs.declared.Verdict.{Verdict}
 use Rattle.search.specs.declared.Verdict.TheVariants.{Least}
-use Rattle.search.specs.declared.SearchResult.{SearchResult}
-use Rattle.search.specs.declared.SearchResult.TheVariants.{Found}
-use Rattle.values.specs.declared.CountResult.{CountResult}
-use Rattle.values.specs.declared.CountResult.TheVariants.{Done}
 use Rattle.joining.specs.Join.{JoinPromise}
 use Rattle.theorems.specs.Starred as starred
 use Rattle.theorems.proofs.Starred.{starred_hold}
@@ -26,6 +22,8 @@ use Rattle.published.specs.Alphabet.{parity}
 use Rattle.theorems_joined.specs.Examples.{scrambler, scrambled}
 use Rattle.theorems_joined.proofs.InRow.{coders_in_row}
 use Rattle.theorems_joined.proofs.Examples.{examples_hold}
+use Rattle.std.specs.Prelude.{Result, Ok}
+use Rattle.coder.specs.declared.refusal.Refusal.{Refusal}
 
 -- the file that the call writes, of which all is said
 joined_scrambler : InRow scrambler (parity 2) scrambled
@@ -33,22 +31,22 @@ joined_scrambler =
     let j = examples_hold.2.2.2.2.1.0 in
     let x = outcomes_exist.join scrambler (parity 2) (replicate 70 0) true in
     let w = j.own (replicate 70 0) x.0 x.1 (lit≤ tt) x.2 in
-    let p : JoinPromise scrambler (parity 2) (replicate 70 0) (Done 70) x.1 =
-    subst (λ (r : CountResult). JoinPromise scrambler (parity 2) (replicate 70 0) r x.1) w.result x.2 in
+    let p : JoinPromise scrambler (parity 2) (replicate 70 0) (Ok 70) x.1 =
+    subst (λ (r : Result ℕ Refusal). JoinPromise scrambler (parity 2) (replicate 70 0) r x.1) w.result x.2 in
     let file : take 70 x.1 ≡ scrambled = rw w.bytes refl in
     subst (InRow scrambler (parity 2)) file (coders_in_row.own scrambler (parity 2) (replicate 70 0) 70 x.1 p)
 
 -- some outcome of a search whose every outcome is this window
 searched_window :
     (f : List ℕ) (b a : ℕ) → starred.Holds f (starred.window default_order b a 0) →
-    (after : List ℕ) × SearchPromise default_order f 0 (replicate 1026 0) (Found (Least (window b a 0))) after
+    (after : List ℕ) × SearchPromise default_order f 0 (replicate 1026 0) (Ok (Least (window b a 0))) after
 searched_window f b a h =
     let x = outcomes_exist.search default_order f 0 (replicate 1026 0) true in
     let r = h (replicate 1026 0) x.0 x.1 (lit≤ tt) x.2 in
-    (x.1, subst (λ (y : SearchResult). SearchPromise default_order f 0 (replicate 1026 0) y x.1) r.0 x.2)
+    (x.1, subst (λ (y : Result Verdict Refusal). SearchPromise default_order f 0 (replicate 1026 0) y x.1) r.0 x.2)
 
 pub scrambled_search :
-    (before : List ℕ) (v : Verdict) (after : List ℕ) → SearchPromise default_order scrambled 0 before (Found v) after →
+    (before : List ℕ) (v : Verdict) (after : List ℕ) → SearchPromise default_order scrambled 0 before (Ok v) after →
     (u : Window) × (v ≡ Least u) × (u.after ≡ 0) × (u.before ≤ 4)
 scrambled_search before v after p =
     let f = searched_window scrambler 3 0 examples_hold.2.2.2.1.0 in

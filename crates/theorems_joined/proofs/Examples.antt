@@ -23,7 +23,6 @@ use Rattle.starts.proofs.Computed.{in_steps_word, starts_word}
 use Rattle.window_limits.specs.Refusal.{sides_refusal, settle_refusal}
 use Rattle.decoder_refusal.specs.Refusal.{limits_refusal, string_refusal}
 use Rattle.running.specs.Run.{run_refusal}
-use Rattle.values.specs.declared.CountResult.{CountResult}
 use Rattle.writer.specs.Write.{WroteFile}
 use Rattle.joining.specs.Join.{join_refusal, join_refusal_in, joined_entries, joined_file, JoinWith, JoinPromise}
 use Rattle.joining.proofs.Joining.{join_accepted}
@@ -38,6 +37,8 @@ use Rattle.theorems.proofs.HostReads.{first_read}
 use Rattle.theorems.proofs.Tests.{same_list, same_list_lem, all_starts, all_words, agree, works_test, later_or_fails, least_test}
 use Rattle.theorems_joined.specs.Examples.{Claim, joins, itself, JoinWrites, Holds, examples}
 use Rattle.theorems_joined.proofs.InRow.{file_small}
+use Rattle.std.specs.Prelude.{Result}
+use Rattle.coder.specs.declared.refusal.Refusal.{Refusal}
 
 -- ---- the test of a claim
 
@@ -50,7 +51,7 @@ module _ (h f g : List ℕ) (none : join_refusal f g true ≡ 0) (same : joined_
   small = subst (λ (x : List ℕ). FieldHolds (length x)) same (file_small f g (join_accepted f g true none).matches)
 
   own :
-      (before : List ℕ) (r : CountResult) (after : List ℕ) → length h ≤ length before → JoinPromise f g before r after →
+      (before : List ℕ) (r : Result ℕ Refusal) (after : List ℕ) → length h ≤ length before → JoinPromise f g before r after →
       WroteFile h before r after
   own before r after room p =
       let long = subst (λ (x : List ℕ). length x ≤ length before) (sym same) room in

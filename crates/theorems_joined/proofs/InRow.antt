@@ -1,7 +1,7 @@
 -- Coders in a row: all that is said of the file that the call wrote, own and from C.
 use mathlib.Core.Path.{◌≡◌, refl, sym, ap}
 use mathlib.Core.Bool.{true}
-use mathlib.Core.List.{List, []}
+use mathlib.Core.List.{List, [], ◌∷◌}
 use Prim.Native.Nat.{ℕ}
 use native.Mathlib.Nat.{mul-le-mul}
 use native.Mathlib.Omega.{arith}
@@ -9,21 +9,21 @@ use lib.ListN.{length, take, drop}
 use lib.Seq.{take_at}
 use Rattle.coder.proofs.Accepted.{accepted}
 use Rattle.coder.proofs.Inverse.{written_read}
-use Rattle.values.specs.declared.CountResult.{CountResult}
-use Rattle.values.specs.declared.CountResult.TheVariants.{Refused, Done}
 use Rattle.joining.specs.Join.{joined_file, join_refusal_in, Matching, JoinWith, JoinPromise}
 use Rattle.joining.proofs.Files.{joined_entries_lem, joined_accepted, joined_size, file_windows}
 use Rattle.joining.proofs.Joining.{join_asked}
 use Rattle.joining_host.proofs.Hosting.{join_others}
 use Rattle.layout.specs.Layout.{field_at}
 use Rattle.layout.specs.Host.{laid_count}
-use Rattle.layout.proofs.Hosting.{not_refused, answered_host}
+use Rattle.layout.proofs.Hosting.{no_refusal, answered_host}
 use Rattle.theorems.specs.RoundTrip.{FieldHolds}
 use Rattle.theorems.proofs.HostReads.{first_read}
 use Rattle.theorems_joined.specs.InRow.{RunDone, RunDoneFromC, InRow, CodersInRow}
 use Rattle.theorems_joined.proofs.Ran.{run_done, run_done_from_C, run_from_own}
 use Rattle.theorems_joined.proofs.Runs.{runs_in_row, same_number, takes_letters}
 use Rattle.theorems_joined.proofs.Searched.{searched, searched_from_C}
+use Rattle.std.specs.Prelude.{Result, Ok}
+use Rattle.coder.specs.declared.refusal.Refusal.{Refusal}
 
 -- ---- two files that match
 
@@ -51,15 +51,15 @@ file_small f g h =
 
 -- ---- the call
 
-module _ (f g before : List ℕ) (r : CountResult) (after : List ℕ) (p : JoinPromise f g before r after)
+module _ (f g before : List ℕ) (r : Result ℕ Refusal) (after : List ℕ) (p : JoinPromise f g before r after)
     (zero : (laid_count r).returned ≡ 0) where
   none : join_refusal_in f g (length before) true ≡ 0
-  none = not_refused laid_count (join_refusal_in f g (length before) true) (λ j. Refused j) _ (λ j. refl) p.result zero
+  none = no_refusal (λ m. m ∷ []) (join_refusal_in f g (length before) true) _ _ p.result zero
 
   matches : Matching f g
   matches = (join_asked f g before true none).0.matches
 
-  counted : r ≡ Done (length (joined_file f g))
+  counted : r ≡ Ok (length (joined_file f g))
   counted = rw none at p.result
 
   -- the number of bytes that it returned, and these bytes
@@ -73,8 +73,8 @@ pub coders_in_row : CodersInRow
 coders_in_row =
     record {
       own = λ f g before m after p.
-          let d = counted f g before (Done m) after p refl in
-          written f g before (Done m) after p refl m cc;
+          let d = counted f g before (Ok m) after p refl in
+          written f g before (Ok m) after p refl m cc;
       from_C = λ f g before result after result' p.
           let h =
           answered_host (λ others own. JoinWith f g before others own after) laid_count

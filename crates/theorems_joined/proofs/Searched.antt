@@ -10,18 +10,18 @@ use Rattle.values.specs.declared.Order.{Order}
 use Rattle.search.specs.Search.{SearchPromise}
 use Rattle.search.specs.declared.Verdict.{Verdict}
 use Rattle.search.specs.declared.Verdict.TheVariants.{Least, NoDecoder}
-use Rattle.search.specs.declared.SearchResult.TheVariants.{Found}
 use Rattle.layout.specs.Layout.{field_at}
 use Rattle.theorems.specs.RoundTrip.{window_read}
 use Rattle.theorems.specs.Demands.{NoLater}
 use Rattle.theorems.proofs.Demands.{demand_3}
 use Rattle.theorems.proofs.HostReads.{search_found, read_kind, read_file, window_found}
 use Rattle.theorems_joined.specs.InRow.{WindowsAdd, SearchedInRow, SearchedInRowFromC}
+use Rattle.std.specs.Prelude.{Ok}
 
 module _ (f g h : List ℕ) (add : WindowsAdd f g h) where
   sum_works :
       (o₁ o₂ : Order) (before₁ : List ℕ) (w : Window) (after₁ before₂ : List ℕ) (w' : Window) (after₂ : List ℕ) →
-      SearchPromise o₁ f 0 before₁ (Found (Least w)) after₁ → SearchPromise o₂ g 0 before₂ (Found (Least w')) after₂ →
+      SearchPromise o₁ f 0 before₁ (Ok (Least w)) after₁ → SearchPromise o₂ g 0 before₂ (Ok (Least w')) after₂ →
       Works (setting_after h 0) (w.before + w'.before) (w.after + w'.after)
   sum_works o₁ o₂ before₁ w after₁ before₂ w' after₂ p q =
       add w.before w.after w'.before w'.after
@@ -31,7 +31,7 @@ module _ (f g h : List ℕ) (add : WindowsAdd f g h) where
   -- where some window works, a search reports one, and none that works comes earlier
   reported :
       (o : Order) (b a : ℕ) → Works (setting_after h 0) b a → (before : List ℕ) (v : Verdict) (after : List ℕ) →
-      SearchPromise o h 0 before (Found v) after → (u : Window) × (v ≡ Least u) × NoLater o u b a
+      SearchPromise o h 0 before (Ok v) after → (u : Window) × (v ≡ Least u) × NoLater o u b a
   reported o b a works before (Least u) after r =
       (u, refl, (demand_3.search o h 0 before (Least u) after r).no_later u refl b a works)
   reported o b a works before (NoDecoder q) after r =

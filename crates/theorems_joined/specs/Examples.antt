@@ -2,7 +2,6 @@
 -- call says that every outcome that the call promises is the one named.
 use Rattle.std.specs.Prelude.{ℕ, ◌≤◌, ◌≡◌, List, [], ◌∷◌, length}
 use Rattle.values.specs.Order.{default_order}
-use Rattle.values.specs.declared.CountResult.{CountResult}
 use Rattle.placing.specs.Placed.{with_front}
 use Rattle.writer.specs.Write.{WroteFile}
 use Rattle.joining.specs.Join.{JoinPromise}
@@ -12,6 +11,8 @@ use Rattle.published.specs.Alphabet.{parity}
 use Rattle.theorems.specs.Cases.{Case}
 use Rattle.theorems.specs.Starred as starred
 use Rattle.theorems.specs.Starred.{counts, window, string, run}
+use Rattle.std.specs.Prelude.{Result}
+use Rattle.coder.specs.declared.refusal.Refusal.{Refusal}
 
 pub data Claim : Type 0 where
   -- the call with these two files, the first and the second, writes the file
@@ -22,7 +23,7 @@ pub data Claim : Type 0 where
 -- for lent buffers that are long enough
 pub record JoinWrites (h f g : List ℕ) : Type 0 where
   pub own :
-      (before : List ℕ) (r : CountResult) (after : List ℕ) → length h ≤ length before → JoinPromise f g before r after →
+      (before : List ℕ) (r : Result ℕ Refusal) (after : List ℕ) → length h ≤ length before → JoinPromise f g before r after →
       WroteFile h before r after
   pub from_C :
       (before result : List ℕ) (r : ℕ) (after result' : List ℕ) → length h ≤ length before → result_bytes ≤ length result →

@@ -4,19 +4,15 @@ use Rattle.std.specs.Prelude.{ℕ, ◌+◌, ◌*◌, ◌≤◌, ◌<◌, ◌≡�
 use Rattle.mealy.specs.Window.{Works}
 use Rattle.coder.specs.File.{states_of, inputs_of, outputs_of, file_refusal, setting_after}
 use Rattle.reader.specs.Read.{header_of}
-use Rattle.reader.specs.declared.Header.TheVariants.{Counts}
 use Rattle.running.specs.Run.{RunPromise}
-use Rattle.running.specs.declared.RunResult as run
 use Rattle.running_host.specs.Laid.{RunFromHost}
 use Rattle.values.specs.declared.Window.{Window}
 use Rattle.values.specs.declared.Order.{Order}
 use Rattle.values.specs.declared.Order.TheVariants.{LeastLookahead}
-use Rattle.values.specs.declared.CountResult.TheVariants.{Done}
 use Rattle.placing.specs.Placed.{with_front}
 use Rattle.search.specs.Search.{SearchPromise}
 use Rattle.search.specs.declared.Verdict.{Verdict}
 use Rattle.search.specs.declared.Verdict.TheVariants.{Least}
-use Rattle.search.specs.declared.SearchResult.TheVariants.{Found}
 use Rattle.search_host.specs.Laid.{SearchFromHost}
 use Rattle.joining.specs.Join.{JoinPromise}
 use Rattle.joining_host.specs.Laid.{JoinFromHost}
@@ -24,6 +20,9 @@ use Rattle.layout.specs.Layout.{field_at}
 use Rattle.published.specs.Published.{first_number, Bytes, long_enough, given_run}
 use Rattle.theorems.specs.RoundTrip.{FieldHolds, window_read}
 use Rattle.theorems.specs.Demands.{NoLater}
+use Rattle.std.specs.Prelude.{Ok}
+use Rattle.running.specs.Run.{run_end}
+use Rattle.reader.specs.Read.{header}
 
 -- ---- a run that is not refused
 
@@ -32,7 +31,7 @@ abbrev pub Runs : Type 1
 Runs = List ℕ → ℕ → List ℕ → List ℕ → ℕ → ℕ → List ℕ → Type 0
 
 abbrev pub RunDone : List ℕ → ℕ → List ℕ → List ℕ → ℕ → ℕ → List ℕ → Type 0
-RunDone f s xs before n e after = RunPromise f s xs before (run.TheVariants.Done n e) after
+RunDone f s xs before n e after = RunPromise f s xs before (Ok (run_end n e)) after
 
 -- From C: the call returned 0, and the host reads both numbers from the fields.
 pub record RunDoneFromC (f : List ℕ) (s : ℕ) (xs before : List ℕ) (n e : ℕ) (after : List ℕ) : Type 0 where
@@ -79,8 +78,8 @@ WindowsAdd f g h =
 abbrev pub SearchedInRow : List ℕ → List ℕ → List ℕ → Type 0
 SearchedInRow f g h =
     (o₁ o₂ o : Order) (before₁ : List ℕ) (w : Window) (after₁ before₂ : List ℕ) (w' : Window) (after₂ before : List ℕ) (v : Verdict)
-    (after : List ℕ) → SearchPromise o₁ f 0 before₁ (Found (Least w)) after₁ → SearchPromise o₂ g 0 before₂ (Found (Least w')) after₂ →
-    SearchPromise o h 0 before (Found v) after →
+    (after : List ℕ) → SearchPromise o₁ f 0 before₁ (Ok (Least w)) after₁ → SearchPromise o₂ g 0 before₂ (Ok (Least w')) after₂ →
+    SearchPromise o h 0 before (Ok v) after →
     (u : Window) × (v ≡ Least u) × NoLater o u (w.before + w'.before) (w.after + w'.after)
 
 -- and from C, each window as the host reads it.
@@ -98,7 +97,7 @@ SearchedInRowFromC f g h =
 pub record InRow (f g h : List ℕ) : Type 0 where
   -- the written file is itself accepted, and has these counts
   pub accepted : file_refusal h ≡ 0
-  pub counts : header_of h ≡ Counts (states_of f * states_of g) (inputs_of f) (outputs_of g)
+  pub counts : header_of h ≡ Ok (header (states_of f * states_of g) (inputs_of f) (outputs_of g))
   pub runs : RunsInRow RunDone f g h
   pub runs_from_C : RunsInRow RunDoneFromC f g h
   pub same_number : SameNumber f g h
@@ -111,7 +110,7 @@ pub record InRow (f g h : List ℕ) : Type 0 where
 -- For each outcome of the call that is not a refusal: m bytes were written, and these are the file. From C: the call returned 0, and the
 -- host reads the number of bytes from field 0.
 pub record CodersInRow : Type 0 where
-  pub own : (f g before : List ℕ) (m : ℕ) (after : List ℕ) → JoinPromise f g before (Done m) after → InRow f g (take m after)
+  pub own : (f g before : List ℕ) (m : ℕ) (after : List ℕ) → JoinPromise f g before (Ok m) after → InRow f g (take m after)
   pub from_C :
       (f g before result after result' : List ℕ) → JoinFromHost f g before result 0 after result' →
       InRow f g (take (field_at result' 0) after)

@@ -24,20 +24,14 @@ use Rattle.kinds.specs.KindsAnswer.{KindsAnswers, Yields}
 use Rattle.kind_list.specs.KindList.{kind_of}
 use Rattle.kind_list.proofs.KindLists.{ListAccepted}
 use Rattle.search_host.specs.Laid.{SearchFromHost}
-use Rattle.search_kinds.specs.Search.{search_kinds_refusal, FoundKinds, SearchKindsWith, SearchKindsPromise}
-use Rattle.search_kinds.specs.declared.KindsVerdict.{KindsVerdict}
-use Rattle.search_kinds.specs.declared.KindsVerdict.TheVariants.{Cannot, Told}
-use Rattle.search_kinds.specs.declared.KindsResult.{KindsResult}
-use Rattle.search_kinds.specs.declared.KindsResult.TheVariants.{Refused, Found}
+use Rattle.search_kinds.specs.Search.{told, search_kinds_refusal, FoundKinds, SearchKindsWith, SearchKindsPromise}
+use Rattle.search_kinds.specs.declared.Told.{Told}
 use Rattle.search_kinds.proofs.Reports.{report_says}
 use Rattle.window_kinds.specs.Answer.{meaning}
 use Rattle.window_kinds.specs.Window.{window_kinds_refusal, AnsweredKinds, WindowKindsWith}
 use Rattle.window_kinds.specs.declared.KindsAnswer.{KindsAnswer}
 use Rattle.window_kinds.specs.declared.KindsAnswer.TheVariants.{Letter, Kind, None, Several}
 use Rattle.kinds_host.specs.Laid.{kinds_fields, laid_kinds, laid_answer, SearchKindsFromHost, WindowKindsFromHost}
-use Rattle.window_kinds.specs.declared.WindowKindsResult.{WindowKindsResult}
-use Rattle.window_kinds.specs.declared.WindowKindsResult.TheVariants as decode
-use Rattle.window_kinds.specs.declared.WindowKindsResult.TheVariants.{Answered}
 use Rattle.window_kinds.proofs.Accepting.{window_kinds_accepted}
 use Rattle.kinds_host.proofs.Hosting.{search_kinds_others, window_kinds_others}
 use Rattle.theorems.proofs.RoundTrip.{not_refused}
@@ -46,13 +40,18 @@ use Rattle.theorems.proofs.HostReads.{first_read, second_read, window_found}
 use Rattle.theorems_kinds.specs.Kinds.{HostYields, StringsYieldFromC, ReadAs, AnswerRead, Kinds}
 use Rattle.theorems_kinds.proofs.Strings.{inputs_are, sides_high, strings_yield}
 use Rattle.theorems_kinds.proofs.Told.{reported}
+use Rattle.std.specs.Prelude as std
+use Rattle.std.specs.Prelude.{Result, Ok, Option, Some}
+use Rattle.coder.specs.declared.refusal.Refusal.{Refusal}
+use Rattle.coder.specs.Refused.{refusal_of, Refused}
+use Rattle.coder.proofs.Refused.{number_some}
 
 -- ---- a search that returned 0
 
 -- its report is one that the library's own search promises, and lies in the fields
 pub record ReportFromC (f kinds result result' : List ℕ) : Type 0 where
-  pub verdict : KindsVerdict
-  pub promised : SearchKindsPromise f kinds (Found verdict)
+  pub verdict : Option Told
+  pub promised : SearchKindsPromise f kinds (Ok verdict)
   pub fields : result' ≡ with_fields result (kinds_fields verdict)
 
 pub report_from_C : (f kinds result result' : List ℕ) → SearchKindsFromHost f kinds result 0 result' → ReportFromC f kinds result result'
@@ -62,30 +61,31 @@ report_from_C f kinds result result' h =
     record {
       verdict = v.0;
       promised = rw v.1 at g.promised;
-      fields = g.out.fields ∙ ap (λ (x : KindsResult). with_fields result (laid_kinds x).fields) v.1;
+      fields = g.out.fields ∙ ap (λ (x : Result (Option Told) Refusal). with_fields result (laid_kinds x).fields) v.1;
     }
   where
     verdict :
-        (own : KindsResult) (k : ℕ) → upon k (λ j. own ≡ Refused j) (FoundKinds f kinds own) → (laid_kinds own).returned ≡ 0 →
-        (v : KindsVerdict) × (own ≡ Found v)
+        (own : Result (Option Told) Refusal) (k : ℕ) → upon k (λ j. own ≡ Refused j) (FoundKinds f kinds own) → (laid_kinds own).returned ≡ 0 →
+        (v : Option Told) × (own ≡ Ok v)
     verdict own zero g z = (g.verdict, g.is)
-    verdict own (suc k) g z = let e = ap (λ (x : KindsResult). (laid_kinds x).returned) g in absurd (omega arith)
+    verdict own (suc k) g z =
+        absurd (number_some (refusal_of (suc k)) (ap (λ (x : Result (Option Told) Refusal). (laid_kinds x).returned) (sym g) ∙ z))
 
 -- ---- a report with a window, as the host reads it
 
-record ToldFields (carried : ℕ) (told : Window) (result' : List ℕ) : Type 0 where
+record ToldFields (carried : ℕ) (w : Window) (result' : List ℕ) : Type 0 where
   told_read : field_at result' 0 ≡ 0
-  before_read : field_at result' 1 ≡ told.before
-  after_read : field_at result' 2 ≡ told.after
+  before_read : field_at result' 1 ≡ w.before
+  after_read : field_at result' 2 ≡ w.after
   carried_read : field_at result' 3 ≡ carried
 
 told_fields :
-    (f kinds result : List ℕ) (u : ℕ) (w : Window) → SearchKindsPromise f kinds (Found (Told u w)) →
-    ToldFields u w (with_fields result (kinds_fields (Told u w)))
+    (f kinds result : List ℕ) (u : ℕ) (w : Window) → SearchKindsPromise f kinds (Ok (Some (told u w))) →
+    ToldFields u w (with_fields result (kinds_fields (Some (told u w))))
 told_fields f kinds result u w p =
-    let g = report_says f kinds (Told u w) p in
+    let g = report_says f kinds (Some (told u w)) p in
     let ok = g.accepted_call.list.file in
-    let ns = kinds_fields (Told u w) in
+    let ns = kinds_fields (Some (told u w)) in
     record {
       told_read = field_at_lem result ns 0 (lit< tt) (lit< tt);
       before_read = field_at_lem result ns 1 (lit< tt) (omega (arith, sides_high f ok g.says.before_small));
@@ -95,19 +95,20 @@ told_fields f kinds result u w p =
 
 record ToldRead (f kinds result' : List ℕ) : Type 0 where
   carried : ℕ
-  told : Window
-  promised : SearchKindsPromise f kinds (Found (Told carried told))
-  fields : ToldFields carried told result'
+  window : Window
+  promised : SearchKindsPromise f kinds (Ok (Some (told carried window)))
+  fields : ToldFields carried window result'
 
 report_read : (f kinds result result' : List ℕ) → ReportFromC f kinds result result' → field_at result' 0 ≡ 0 → ToldRead f kinds result'
 report_read f kinds result result' r e =
     rw r.fields (go r.verdict r.promised (sym (ap (λ (x : List ℕ). field_at x 0) r.fields) ∙ e))
   where
     go :
-        (v : KindsVerdict) → SearchKindsPromise f kinds (Found v) → field_at (with_fields result (kinds_fields v)) 0 ≡ 0 →
+        (v : Option Told) → SearchKindsPromise f kinds (Ok v) → field_at (with_fields result (kinds_fields v)) 0 ≡ 0 →
         ToldRead f kinds (with_fields result (kinds_fields v))
-    go Cannot p z = absurd (omega (arith, field_at_lem result (kinds_fields Cannot) 0 (lit< tt) (lit< tt)))
-    go (Told u w) p z = record { carried = u; told = w; promised = p; fields = told_fields f kinds result u w p }
+    go std.None p z = absurd (omega (arith, field_at_lem result (kinds_fields std.None) 0 (lit< tt) (lit< tt)))
+    go (Some t) p z =
+        record { carried = t.carried; window = t.window; promised = p; fields = told_fields f kinds result t.carried t.window p }
 
 -- beside a search for letters that has found a window
 letters_read :
@@ -134,7 +135,7 @@ number_of Several = 0
 
 -- 0 is returned for it, and the fields say it
 read_out :
-    (v : KindsAnswer) → number_of v < 16 → (own : WindowKindsResult) → own ≡ Answered v → (result : List ℕ) {r : ℕ} {result' : List ℕ} →
+    (v : KindsAnswer) → number_of v < 16 → (own : Result KindsAnswer Refusal) → own ≡ Ok v → (result : List ℕ) {r : ℕ} {result' : List ℕ} →
     LaidOut (laid_answer own) result r result' → (r ≡ 0) × ReadAs (meaning v) result'
 read_out (Letter x) small own e result out =
     let d = ap laid_answer e in
@@ -168,16 +169,16 @@ window_read_lem f kinds b a received result result' h =
     answered g.own (window_kinds_refusal f kinds b a received true) refl g.promised g.out
   where
     answered :
-        (own : WindowKindsResult) (k : ℕ) → window_kinds_refusal f kinds b a received true ≡ k →
-        upon k (λ j. own ≡ decode.Refused j) (AnsweredKinds f kinds b received own) → LaidOut (laid_answer own) result 0 result' →
+        (own : Result KindsAnswer Refusal) (k : ℕ) → window_kinds_refusal f kinds b a received true ≡ k →
+        upon k (λ j. own ≡ Refused j) (AnsweredKinds f kinds b received own) → LaidOut (laid_answer own) result 0 result' →
         AnswerRead f kinds b received result'
     answered own zero z q out =
         let list = (window_kinds_accepted f kinds b a received true z).list in
         let low = right_low f kinds list received b q.answer q.right in
         record { answer = meaning q.answer; right = q.right; read = (read_out q.answer low own q.is result out).1 }
     answered own (suc k) z q out =
-        let e = ap (λ (x : WindowKindsResult). (laid_answer x).returned) q in
-        absurd (omega (arith, out.number))
+        absurd
+        (number_some (refusal_of (suc k)) (ap (λ (x : Result KindsAnswer Refusal). (laid_answer x).returned) (sym q) ∙ sym out.number))
 
 -- what it yields of the letter x
 yields_low :
@@ -205,8 +206,8 @@ strings_yield_from_C f kinds s xs coded small before₁ result₁ r₁ after₁ 
     let ended = rw (not_refused f s xs coded before₁ room₁) at u.promised.result in
     let sent = first_read result₁ (laid_run u.own) (length xs) _ (ap laid_run ended) small u.out in
     let t = report_read f kinds result₂ result₂' (report_from_C f kinds result₂ result₂' found) is-told in
-    let w = t.told in
-    let list = (report_says f kinds (Told t.carried w) t.promised).accepted_call.list in
+    let w = t.window in
+    let list = (report_says f kinds (Some (told t.carried w)) t.promised).accepted_call.list in
     let full' : k + size w ≤ length xs = rw (t.fields.before_read, t.fields.after_read) at full in
     let part = take (size w) (drop k (take (length xs) after₁)) in
     let v =

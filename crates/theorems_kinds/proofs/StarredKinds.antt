@@ -43,17 +43,13 @@ use Rattle.kinds.proofs.Telling.{carried→one}
 use Rattle.kinds.proofs.Reports.{found_sides}
 use Rattle.kind_list.specs.KindList.{kind_of, list_refusal}
 use Rattle.search_kinds.specs.Tries.{CarriedBelow}
-use Rattle.search_kinds.specs.Search.{search_kinds_refusal, KindsSaysOf, SearchKindsPromise}
-use Rattle.search_kinds.specs.declared.KindsVerdict.{KindsVerdict}
-use Rattle.search_kinds.specs.declared.KindsVerdict.TheVariants.{Cannot, Told}
-use Rattle.search_kinds.specs.declared.KindsResult.{KindsResult}
-use Rattle.search_kinds.specs.declared.KindsResult.TheVariants.{Found}
+use Rattle.search_kinds.specs.Search.{told, search_kinds_refusal, KindsSaysOf, SearchKindsPromise}
+use Rattle.search_kinds.specs.declared.Told.{Told}
 use Rattle.search_kinds.proofs.Determined.{search_kinds_determined}
 use Rattle.window_kinds.specs.Answer.{shared, kind_or_several, kinds_answer_of}
 use Rattle.window_kinds.specs.Window.{window_kinds_refusal}
 use Rattle.window_kinds.specs.declared.KindsAnswer.{KindsAnswer}
 use Rattle.window_kinds.specs.declared.KindsAnswer.TheVariants.{Letter, Kind, None, Several}
-use Rattle.window_kinds.specs.declared.WindowKindsResult.TheVariants.{Answered}
 use Rattle.window_kinds.proofs.Accepting.{window_kinds_accepted}
 use Rattle.window_kinds.proofs.Determined.{window_kinds_determined}
 use Rattle.window_kinds.proofs.SetAnswers.{holds_kinds_right}
@@ -65,6 +61,9 @@ use Rattle.theorems.proofs.Tests.{closes_test, valid_test, valid_test_lem}
 use Rattle.theorems_kinds.proofs.Strings.{inputs_are}
 use Rattle.theorems_kinds.specs.Starred as claimed
 use Rattle.theorems_kinds.specs.Starred.{Evidence, Left, Claim, Holds, starred_kinds}
+use Rattle.std.specs.Prelude as std
+use Rattle.std.specs.Prelude.{Result, Ok, Option, Some}
+use Rattle.coder.specs.declared.refusal.Refusal.{Refusal}
 
 -- ---- which letters conflict
 
@@ -202,9 +201,9 @@ module _ (f : List ℕ) (z : file_refusal f ≡ 0) where
   module _ (kinds : List ℕ) where
     -- a report that says what it is to say is the one promised
     as_said :
-        (v : KindsVerdict) → search_kinds_refusal f kinds true ≡ 0 → KindsSaysOf f kinds v → (r : KindsResult) →
-        SearchKindsPromise f kinds r → r ≡ Found v
-    as_said v e says r h = search_kinds_determined f kinds true r (Found v) h (rw e (record { verdict = v; is = refl; says = says }))
+        (v : Option Told) → search_kinds_refusal f kinds true ≡ 0 → KindsSaysOf f kinds v → (r : Result (Option Told) Refusal) →
+        SearchKindsPromise f kinds r → r ≡ Ok v
+    as_said v e says r h = search_kinds_determined f kinds true r (Ok v) h (rw e (record { verdict = v; is = refl; says = says }))
 
     not_carried : (κ : ℕ) (left : List Left) → left_test f kinds κ left ≡ true → Carried S (kind_of kinds) κ → ⊥
     not_carried κ [] e c = true_false e refl
@@ -256,7 +255,7 @@ module _ (f : List ℕ) (z : file_refusal f ≡ 0) where
             only = λ κ l h. (in_low κ l h, (b, a, carried→one S kind (Has u) κ h b a first.works));
           }
 
-      told_says : KindsSaysOf f kinds (Told u (window b a 0))
+      told_says : KindsSaysOf f kinds (Some (told u (window b a 0)))
       told_says =
           let set : theory.CarriedSet S kind (Has u) = λ κ l. ((λ h. (holds_member held_carried κ h).1), carried_in κ l) in
           let sides = found_sides S kind closed decided bounded (is_order default_order) (record { carried = set; least = first }) in
@@ -269,16 +268,16 @@ module _ (f : List ℕ) (z : file_refusal f ≡ 0) where
         let h₀ = window_kinds_accepted f kinds b a received true e in
         let fits = file_fits f z 0 received b (omega (arith, h₀.long)) in
         let w = decoded_kinds f kinds b received in
-        window_kinds_determined f kinds b a received true r (Answered w) h
+        window_kinds_determined f kinds b a received true r (Ok w) h
         (rw e (record { answer = w; is = refl; right = holds_kinds_right (kind_of kinds) fits })) ∙
-        ap Answered d
+        ap Ok d
 
   claim_holds : (c : Claim) → test f c ≡ true → Holds f c
   unfolding test
   claim_holds (claimed.cannot kinds p) e =
       let t =
       both_true (eqb (search_kinds_refusal f kinds true) 0) (valid_test (machine_of f) (starts_of f 0) (pair_of p) (different_kinds kinds)) e in
-      as_said kinds Cannot (eqb-true _ _ t.0)
+      as_said kinds std.None (eqb-true _ _ t.0)
       (excluded (DifferentKinds (kind_of kinds)) (different_kinds kinds) (kinds_judged kinds) (pair_of p) t.1)
   claim_holds (claimed.told kinds b a u left) e =
       let l = least_test (machine_of f) (starts_of f 0) (different_carried kinds u) default_order b a in
@@ -286,7 +285,7 @@ module _ (f : List ℕ) (z : file_refusal f ≡ 0) where
       let t = both_true (eqb (search_kinds_refusal f kinds true) 0) (ltb u 65536 && (l && c)) e in
       let v = both_true (ltb u 65536) (l && c) t.1 in
       let w = both_true l c v.1 in
-      as_said kinds (Told u (window b a 0)) (eqb-true _ _ t.0) (told_says kinds b a u left v.0 w.0 w.1)
+      as_said kinds (Some (told u (window b a 0))) (eqb-true _ _ t.0) (told_says kinds b a u left v.0 w.0 w.1)
   claim_holds (claimed.answer kinds b a received v) e =
       let d = decoded_kinds f kinds b received in
       let t = both_true (eqb (window_kinds_refusal f kinds b a received true) 0) (same_answer d v) e in

@@ -22,7 +22,8 @@ use Rattle.window_limits.proofs.Limits.{sides_pass}
 use Rattle.kinds.specs.KindsAnswer.{Yields}
 use Rattle.kinds.proofs.KindsComeBack.{kinds_come_back}
 use Rattle.kind_list.specs.KindList.{kind_of}
-use Rattle.search_kinds.specs.declared.KindsVerdict.TheVariants.{Told}
+use Rattle.std.specs.Prelude.{Some}
+use Rattle.search_kinds.specs.Search.{told}
 use Rattle.search_kinds.proofs.Reports.{report_says}
 use Rattle.window_kinds.specs.Answer.{meaning}
 use Rattle.window_kinds.specs.Window.{window_kinds_refusal, AnsweredKinds}
@@ -58,7 +59,7 @@ strings_yield f kinds s xs coded before₁ r₁ after₁ room ran carried w prom
     let S = setting_after f 0 in
     let b = w.before in
     let a = w.after in
-    let g = report_says f kinds (Told carried w) promise in
+    let g = report_says f kinds (Some (told carried w)) promise in
     let file = accepted f coded.file in
     let report = g.says in
     let os = outs M s xs in

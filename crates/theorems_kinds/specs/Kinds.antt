@@ -6,7 +6,6 @@ use Rattle.mealy.specs.Word.{Has}
 use Rattle.mealy.specs.Window.{Works}
 use Rattle.coder.specs.File.{inputs_of, setting_after}
 use Rattle.running.specs.Run.{RunPromise}
-use Rattle.running.specs.declared.RunResult.{RunResult}
 use Rattle.running_host.specs.Laid.{RunFromHost}
 use Rattle.values.specs.Window.{size}
 use Rattle.values.specs.Order.{default_order}
@@ -15,30 +14,28 @@ use Rattle.layout.specs.Layout.{result_bytes, with_fields, field_at}
 use Rattle.search.specs.Search.{SearchPromise}
 use Rattle.search_host.specs.Laid.{SearchFromHost}
 use Rattle.search.specs.declared.Verdict.TheVariants.{Least}
-use Rattle.search.specs.declared.SearchResult as search_result
 use Rattle.kinds.specs.Kinds.{tell_kinds, tell_one, Carried, Leaves}
 use Rattle.kinds.specs.KindsAnswer as theory
 use Rattle.kinds.specs.KindsAnswer.{KindsAnswers, Yields}
 use Rattle.kind_list.specs.KindList.{kind_of}
-use Rattle.search_kinds.specs.Search.{SearchKindsPromise}
-use Rattle.search_kinds.specs.declared.KindsVerdict.{KindsVerdict}
-use Rattle.search_kinds.specs.declared.KindsVerdict.TheVariants.{Cannot, Told}
-use Rattle.search_kinds.specs.declared.KindsResult.TheVariants.{Found}
+use Rattle.search_kinds.specs.Search.{told, SearchKindsPromise}
+use Rattle.search_kinds.specs.declared.Told.{Told}
 use Rattle.window_kinds.specs.Answer.{meaning}
 use Rattle.window_kinds.specs.Window.{WindowKindsPromise}
 use Rattle.window_kinds.specs.declared.KindsAnswer.{KindsAnswer}
 use Rattle.window_kinds.specs.declared.KindsAnswer.TheVariants.{Letter}
-use Rattle.window_kinds.specs.declared.WindowKindsResult.{WindowKindsResult}
-use Rattle.window_kinds.specs.declared.WindowKindsResult.TheVariants.{Answered}
 use Rattle.kinds_host.specs.Laid.{kinds_fields, SearchKindsFromHost, WindowKindsFromHost}
 use Rattle.theorems.specs.RoundTrip.{Coded, FieldHolds}
+use Rattle.std.specs.Prelude.{Result, Ok, Option, Some, None}
+use Rattle.coder.specs.declared.refusal.Refusal.{Refusal}
+use Rattle.running.specs.declared.RunEnd.{RunEnd}
 
 -- ---- the sentence on a coded string
 
 -- The decoder is not refused, and its answer yields of the letter x that went in the kind, and the letter where its kind is in the word.
-pub record YieldedBy (kinds : List ℕ) (carried x : ℕ) (r : WindowKindsResult) : Type 0 where
+pub record YieldedBy (kinds : List ℕ) (carried x : ℕ) (r : Result KindsAnswer Refusal) : Type 0 where
   pub answer : KindsAnswer
-  pub is : r ≡ Answered answer
+  pub is : r ≡ Ok answer
   pub yields : Yields (kind_of kinds) (Has carried) x (meaning answer)
   pub letter : Has carried (kind_of kinds x) → answer ≡ Letter x
 
@@ -47,10 +44,10 @@ pub record YieldedBy (kinds : List ℕ) (carried x : ℕ) (r : WindowKindsResult
 abbrev pub StringsYield : Type 0
 StringsYield =
     (f kinds : List ℕ) (s : ℕ) (xs : List ℕ) → Coded f s xs →
-    (before₁ : List ℕ) (r₁ : RunResult) (after₁ : List ℕ) → length xs ≤ length before₁ → RunPromise f s xs before₁ r₁ after₁ →
-    (carried : ℕ) (w : Window) → SearchKindsPromise f kinds (Found (Told carried w)) →
+    (before₁ : List ℕ) (r₁ : Result RunEnd Refusal) (after₁ : List ℕ) → length xs ≤ length before₁ → RunPromise f s xs before₁ r₁ after₁ →
+    (carried : ℕ) (w : Window) → SearchKindsPromise f kinds (Ok (Some (told carried w))) →
     (k : ℕ) → k + size w ≤ length xs →
-    (r : WindowKindsResult) →
+    (r : Result KindsAnswer Refusal) →
     WindowKindsPromise f kinds w.before w.after (take (size w) (drop k (take (length xs) after₁))) r →
     YieldedBy kinds carried (get_or xs (k + w.before) 0) r
 
@@ -96,28 +93,28 @@ pub record AnswerRead (f kinds : List ℕ) (b : ℕ) (received result : List ℕ
 
 -- ---- what is said of a report
 
-pub record Reported (f kinds : List ℕ) (v : KindsVerdict) : Type 0 where
+pub record Reported (f kinds : List ℕ) (v : Option Told) : Type 0 where
   -- "A cannot stands only for coders where every window leaves two kinds", and there it stands
-  pub cannot : v ≡ Cannot ↔ ((b a : ℕ) → Leaves (tell_kinds (setting_after f 0) (kind_of kinds)) b a)
+  pub cannot : v ≡ None ↔ ((b a : ℕ) → Leaves (tell_kinds (setting_after f 0) (kind_of kinds)) b a)
   -- the word has the numbers below I that are carried, and no other
   pub carried :
-      (u : ℕ) (w : Window) → v ≡ Told u w → (κ : ℕ) → Has u κ ↔ ((κ < inputs_of f) × Carried (setting_after f 0) (kind_of kinds) κ)
+      (u : ℕ) (w : Window) → v ≡ Some (told u w) → (κ : ℕ) → Has u κ ↔ ((κ < inputs_of f) × Carried (setting_after f 0) (kind_of kinds) κ)
   -- "a kind that no letter has counts as carried"
   pub unused :
-      (u : ℕ) (w : Window) → v ≡ Told u w → (κ : ℕ) → κ < inputs_of f → ((i : ℕ) → i < inputs_of f → kind_of kinds i ≢ κ) → Has u κ
+      (u : ℕ) (w : Window) → v ≡ Some (told u w) → (κ : ℕ) → κ < inputs_of f → ((i : ℕ) → i < inputs_of f → kind_of kinds i ≢ κ) → Has u κ
   -- the window tells the kind always and the letter in every carried kind, and comes no later than any other that does, whatever its sides
-  pub kind_always : (u : ℕ) (w : Window) → v ≡ Told u w → Works (tell_kinds (setting_after f 0) (kind_of kinds)) w.before w.after
+  pub kind_always : (u : ℕ) (w : Window) → v ≡ Some (told u w) → Works (tell_kinds (setting_after f 0) (kind_of kinds)) w.before w.after
   pub letters :
-      (u : ℕ) (w : Window) → v ≡ Told u w → (κ : ℕ) → Has u κ → Works (tell_one (setting_after f 0) (kind_of kinds) κ) w.before w.after
+      (u : ℕ) (w : Window) → v ≡ Some (told u w) → (κ : ℕ) → Has u κ → Works (tell_one (setting_after f 0) (kind_of kinds) κ) w.before w.after
   pub no_later :
-      (u : ℕ) (w : Window) → v ≡ Told u w → (b a : ℕ) → Works (tell_kinds (setting_after f 0) (kind_of kinds)) b a →
+      (u : ℕ) (w : Window) → v ≡ Some (told u w) → (b a : ℕ) → Works (tell_kinds (setting_after f 0) (kind_of kinds)) b a →
       ((κ : ℕ) → Has u κ → Works (tell_one (setting_after f 0) (kind_of kinds) κ) b a) →
       (w.after ≤ a) × (w.after ≡ a → w.before ≤ b)
   -- where the search for letters with settle count 0 and in the default order finds a window, that is the window, and every kind is carried
   pub as_letters :
       (before after : List ℕ) (w : Window) →
-      SearchPromise default_order f 0 before (search_result.TheVariants.Found (Least w)) after →
-      (u : ℕ) × (v ≡ Told u w) × ((κ : ℕ) → κ < inputs_of f → Has u κ)
+      SearchPromise default_order f 0 before (Ok (Least w)) after →
+      (u : ℕ) × (v ≡ Some (told u w)) × ((κ : ℕ) → κ < inputs_of f → Has u κ)
 
 pub record Kinds : Type 0 where
   pub strings : StringsYield
@@ -126,7 +123,7 @@ pub record Kinds : Type 0 where
   pub window_from_C :
       (f kinds : List ℕ) (b a : ℕ) (received result result' : List ℕ) → WindowKindsFromHost f kinds b a received result 0 result' →
       AnswerRead f kinds b received result'
-  pub search : (f kinds : List ℕ) (v : KindsVerdict) → SearchKindsPromise f kinds (Found v) → Reported f kinds v
+  pub search : (f kinds : List ℕ) (v : Option Told) → SearchKindsPromise f kinds (Ok v) → Reported f kinds v
   -- where a search for letters from C with settle count 0 has a window in its fields, one for kinds has the same there, and every kind
   pub as_letters_from_C :
       (f kinds before result after result' : List ℕ) → SearchFromHost f 0 before result 0 after result' → field_at result' 0 ≡ 0 →
@@ -136,4 +133,4 @@ pub record Kinds : Type 0 where
   -- a search from C that returns 0 has such a report in the fields of its result
   pub search_from_C :
       (f kinds result result' : List ℕ) → SearchKindsFromHost f kinds result 0 result' →
-      (v : KindsVerdict) × (result' ≡ with_fields result (kinds_fields v)) × Reported f kinds v
+      (v : Option Told) × (result' ≡ with_fields result (kinds_fields v)) × Reported f kinds v

@@ -4,15 +4,14 @@
 use Rattle.std.specs.Prelude.{ℕ, ◌≡◌, List, [], ◌∷◌}
 use Rattle.values.specs.Window.{window}
 use Rattle.search_kinds.specs.Search.{SearchKindsPromise}
-use Rattle.search_kinds.specs.declared.KindsVerdict.TheVariants.{Cannot, Told}
-use Rattle.search_kinds.specs.declared.KindsResult.{KindsResult}
-use Rattle.search_kinds.specs.declared.KindsResult.TheVariants.{Found}
 use Rattle.window_kinds.specs.Window.{WindowKindsPromise}
 use Rattle.window_kinds.specs.declared.KindsAnswer.{KindsAnswer}
 use Rattle.window_kinds.specs.declared.KindsAnswer.TheVariants.{Letter, Kind, None, Several}
-use Rattle.window_kinds.specs.declared.WindowKindsResult.{WindowKindsResult}
-use Rattle.window_kinds.specs.declared.WindowKindsResult.TheVariants.{Answered}
 use Rattle.theorems.specs.Cases.{Case}
+use Rattle.std.specs.Prelude as std
+use Rattle.std.specs.Prelude.{Result, Ok, Option, Some}
+use Rattle.coder.specs.declared.refusal.Refusal.{Refusal}
+use Rattle.search_kinds.specs.declared.Told.{Told}
 
 -- A looped pair of three letters: start states, and the bytes of the letters.
 pub record Evidence : Type 0 where
@@ -34,9 +33,9 @@ pub data Claim : Type 0 where
   answer : List ℕ → ℕ → ℕ → List ℕ → KindsAnswer → Claim
 
 abbrev pub Holds : List ℕ → Claim → Type 0
-Holds f (cannot kinds pair) = (r : KindsResult) → SearchKindsPromise f kinds r → r ≡ Found Cannot
-Holds f (told kinds b a carried left) = (r : KindsResult) → SearchKindsPromise f kinds r → r ≡ Found (Told carried (window b a 0))
-Holds f (answer kinds b a received v) = (r : WindowKindsResult) → WindowKindsPromise f kinds b a received r → r ≡ Answered v
+Holds f (cannot kinds pair) = (r : Result (Option Told) Refusal) → SearchKindsPromise f kinds r → r ≡ Ok std.None
+Holds f (told kinds b a carried left) = (r : Result (Option Told) Refusal) → SearchKindsPromise f kinds r → r ≡ Ok (Some (record { carried = carried; window = window b a 0 }))
+Holds f (answer kinds b a received v) = (r : Result KindsAnswer Refusal) → WindowKindsPromise f kinds b a received r → r ≡ Ok v
 
 abbrev pub starred_kinds : List (Case Claim)
 starred_kinds =

@@ -1,6 +1,5 @@
 -- Two runs in step, place by place.
-use mathlib.Core.Path.{◌≡◌, refl, sym, ◌∙◌}
-use mathlib.Core.Bool.{true, false}
+use mathlib.Core.Path.{◌≡◌, sym, ◌∙◌}
 use mathlib.Core.List.{List, ◌∷◌}
 use Prim.Native.Nat.{ℕ, ◌+◌, ◌*◌, ◌-◌, ◌≤◌, ◌<◌}
 use native.Mathlib.Omega.{arith}
@@ -13,10 +12,10 @@ use Rattle.mealy.proofs.Edges.{equal_edge}
 use Rattle.mealy.proofs.Walks.{walk_nil, walk_cons, walk_tail}
 use Rattle.mealy.proofs.PairParts.{letters_append}
 use Rattle.mealy.proofs.Letters.{letter_at_lem}
-use Rattle.coder.specs.Limits.{max_states}
+use Rattle.coder.specs.Limits.{max_states, max_inputs}
 use Rattle.coder.specs.Table.{table_at, machine_of_coder}
 use Rattle.coder.specs.declared.inner.tables.Coder.{Coder}
-use Rattle.coder.proofs.Refusals.{true_false}
+use Rattle.std.specs.Prelude.{Some, None}
 use Rattle.valid_pair.specs.Follow.{PairTables, FollowAsked, Follows}
 
 -- the first run's letter stands at the even place
@@ -60,6 +59,17 @@ next_low a u i =
     let h = a.tables.sound in
     omega (arith, h.states_high, rw a.tables.next_is at (h.next_state u i))
 
+-- the two letters of a place that is to be followed are input letters
+pub letters_low :
+    {next output bytes : List ℕ} {s t place n : ℕ} → FollowAsked next output bytes s t place n → (k : ℕ) → k < n →
+    (get_or bytes (2 * (place + k)) 0 < max_inputs) × (get_or bytes (2 * (place + k) + 1) 0 < max_inputs)
+letters_low {bytes = bytes} {place = place} a k l =
+    let h = a.tables.sound in
+    let w = a.within in (
+      omega (arith, letter_at_lem a.c.inputs bytes a.tables.below (2 * (place + k)) (omega arith), h.inputs_high),
+      omega (arith, letter_at_lem a.c.inputs bytes a.tables.below (2 * (place + k) + 1) (omega arith), h.inputs_high),
+    )
+
 -- the letter of a place, and the letters after it
 letters_next :
     (p : LoopedPair) (r : Run) (place n k : ℕ) → k < n →
@@ -97,17 +107,13 @@ module _ {M : Machine} {p : LoopedPair} {s t place n u v k : ℕ} (a : Passed M 
           rw (e.to₁, e.to₂) at (walk_tail w');
     }
 
-    pub passed_not :
-        (M.out u i ≡ M.out v j → ⊥) → Follows M p s t place n (record { ok = false; u = u; v = v })
-    passed_not h = record {
-      walk = λ e. absurd (true_false e refl);
-      none = λ e x y w.
-          let w' = rw (letters_next p first place n k l, letters_next p second place n k l) at (a.rest x y w) in
-          h (equal_edge w'.equal).output;
-    }
+    pub passed_not : (M.out u i ≡ M.out v j → ⊥) → Follows M p s t place n None
+    passed_not h x y w =
+        let w' = rw (letters_next p first place n k l, letters_next p second place n k l) at (a.rest x y w) in
+        h (equal_edge w'.equal).output
 
-  pub passed_all : n ≤ k → Follows M p s t place n (record { ok = true; u = u; v = v })
+  pub passed_all : n ≤ k → Follows M p s t place n (Some (u, v))
   passed_all l =
       let b = a.bound in
       let f : n - k ≡ 0 = omega arith in
-      record { walk = λ e. a.all u v (rw f walk_nil); none = λ e. absurd (true_false refl e) }
+      a.all u v (rw f walk_nil)

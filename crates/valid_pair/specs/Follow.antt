@@ -1,5 +1,5 @@
 -- Following the two runs of a pair over some of its places.
-use Rattle.std.specs.Prelude.{ℕ, ◌+◌, ◌*◌, ◌≤◌, ◌<◌, ◌≡◌, Bool, true, false, List, length}
+use Rattle.std.specs.Prelude.{ℕ, ◌+◌, ◌*◌, ◌≤◌, ◌<◌, ◌≡◌, Bool, List, Option, MatchOption, length}
 use Rattle.mealy.specs.Machine.{Machine, Letters}
 use Rattle.mealy.specs.Setting.{worded}
 use Rattle.mealy.specs.LoopedPair.{LoopedPair, letters, Valid}
@@ -7,7 +7,6 @@ use Rattle.mealy.specs.Walk.{Part, Parts}
 use Rattle.coder.specs.Refusal.{Judges}
 use Rattle.coder.specs.Table.{machine_of_coder, Sound}
 use Rattle.coder.specs.declared.inner.tables.Coder.{Coder}
-use Rattle.valid_pair.specs.declared.inner.follow.Followed.{Followed}
 
 -- The tables are those of the coder c, and the bytes are those of the pair p and input letters of c.
 pub record PairTables (c : Coder) (p : LoopedPair) (next output bytes : List ℕ) : Type 0 where
@@ -27,9 +26,8 @@ pub record FollowAsked (next output bytes : List ℕ) (s t place n : ℕ) : Type
   pub within : 2 * (place + n) ≤ length bytes
 
 -- These letters are a walk to the two states of r, or they are no walk at all.
-pub record Follows (M : Machine) (p : LoopedPair) (s t place n : ℕ) (r : Followed) : Type 0 where
-  pub walk : r.ok ≡ true → Part M p place n s t r.u r.v
-  pub none : r.ok ≡ false → (u v : ℕ) → Part M p place n s t u v → ⊥
+abbrev pub Follows : Machine → LoopedPair → ℕ → ℕ → ℕ → ℕ → Option (ℕ × ℕ) → Type 0
+Follows M p s t place n r = MatchOption r ((u v : ℕ) → Part M p place n s t u v → ⊥) (λ w. Part M p place n s t w.0 w.1)
 
 -- The tables are those of the coder c, and the pair is one that is not refused for c.
 pub record CheckOf (c : Coder) (next output : List ℕ) (p : LoopedPair) : Type 0 where

@@ -1,10 +1,10 @@
-// What the calls are given and give: a window, an order of windows, a looped pair, a number of bytes.
+// What the calls are given and give: a window, an order of windows, a looped pair.
 #![tactic(auto)]
 
 pub mod inner; // inner.rt: the comparison of two windows; no public calls
 
 // A window: how many letters before the present one and after it, and how many letters, unseen, its runs read ahead of it.
-#[derive(Clone, Copy)]
+#[derive(Clone, Copy, PartialEq, Eq)]
 pub struct Window {
     pub before: usize,
     pub after: usize,
@@ -13,7 +13,7 @@ pub struct Window {
 
 // The order in which a search reports the least window that works: least lookahead and, among those, fewest letters before; or fewest
 // letters in all and, among those, least lookahead.
-#[derive(Clone, Copy)]
+#[derive(Clone, Copy, PartialEq, Eq)]
 pub enum Order {
     LeastLookahead,
     FewestLetters,
@@ -25,7 +25,7 @@ impl Order {
 }
 
 // Starts and lengths of a looped pair; its letters lie in a lent buffer.
-#[derive(Clone, Copy)]
+#[derive(Clone, Copy, PartialEq, Eq)]
 pub struct LoopedPair {
     pub s: usize,
     pub t: usize,
@@ -33,11 +33,4 @@ pub struct LoopedPair {
     pub lead_in: usize,
     pub lead_out: usize,
     pub forward_loop: usize,
-}
-
-// What a call that writes bytes returns: the refusal's number, or how many bytes it wrote.
-#[derive(Clone, Copy)]
-pub enum CountResult {
-    Refused(usize),
-    Done { count: usize },
 }

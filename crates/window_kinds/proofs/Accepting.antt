@@ -1,4 +1,4 @@
--- What a call of the decoder of kinds that is not refused relies on.
+-- What a call of the decoder of kinds that is not refused relies on. Its refusal is a number of the list.
 use mathlib.Core.Path.{◌≡◌}
 use mathlib.Core.Bool.{Bool, true}
 use mathlib.Core.List.{List}

@@ -4,7 +4,10 @@ use mathlib.Core.Bool.{Bool}
 use mathlib.Core.List.{List}
 use Prim.Native.Nat.{ℕ, zero, suc}
 use native.Mathlib.Omega.{arith}
+use Rattle.std.specs.Prelude.{Result, Ok}
 use Rattle.coder.specs.Refusal.{upon}
+use Rattle.coder.specs.declared.refusal.Refusal.{Refusal}
+use Rattle.coder.specs.Refused.{Refused}
 use Rattle.coder.specs.File.{setting_after}
 use Rattle.coder.specs.Table.{coder_of}
 use Rattle.filling.specs.Window.{fitting_word}
@@ -16,8 +19,6 @@ use Rattle.window_kinds.specs.Answer.{meaning, kinds_answer_of}
 use Rattle.window_kinds.specs.Window.{window_kinds_refusal, AnsweredKinds, WindowKindsWith}
 use Rattle.window_kinds.specs.declared.KindsAnswer.{KindsAnswer}
 use Rattle.window_kinds.specs.declared.KindsAnswer.TheVariants.{Letter, Kind, None, Several}
-use Rattle.window_kinds.specs.declared.WindowKindsResult.{WindowKindsResult}
-use Rattle.window_kinds.specs.declared.WindowKindsResult.TheVariants.{Refused, Answered}
 use Rattle.window_kinds.proofs.Accepting.{window_kinds_accepted}
 use Rattle.window_kinds.proofs.SetAnswers.{holds_kinds_right}
 
@@ -40,7 +41,8 @@ meaning_injective v v' e = sym (case_meaning v) ∙ ap case_of e ∙ case_meanin
 
 module _ (f kinds : List ℕ) (b a : ℕ) (received : List ℕ) (others : Bool) where
   pub window_kinds_determined :
-      (r r' : WindowKindsResult) → WindowKindsWith f kinds b a received others r → WindowKindsWith f kinds b a received others r' → r ≡ r'
+      (r r' : Result KindsAnswer Refusal) → WindowKindsWith f kinds b a received others r →
+      WindowKindsWith f kinds b a received others r' → r ≡ r'
   window_kinds_determined r r' = go (window_kinds_refusal f kinds b a received others)
     where
       go :
@@ -48,18 +50,18 @@ module _ (f kinds : List ℕ) (b a : ℕ) (received : List ℕ) (others : Bool) 
           upon k (λ j. r' ≡ Refused j) (AnsweredKinds f kinds b received r') → r ≡ r'
       go zero p q =
           let z = kinds_answer_unique (setting_after f 0) (kind_of kinds) received b _ _ p.right q.right in
-          p.is ∙ ap Answered (meaning_injective p.answer q.answer z) ∙ sym q.is
+          p.is ∙ ap (λ v. Ok v) (meaning_injective p.answer q.answer z) ∙ sym q.is
       go (suc k) p q = p ∙ sym q
 
-  pub window_kinds_exists : (r : WindowKindsResult) × WindowKindsWith f kinds b a received others r
+  pub window_kinds_exists : (r : Result KindsAnswer Refusal) × WindowKindsWith f kinds b a received others r
   window_kinds_exists = go (window_kinds_refusal f kinds b a received others) refl
     where
       go :
           (k : ℕ) → window_kinds_refusal f kinds b a received others ≡ k →
-          (r : WindowKindsResult) × upon k (λ j. r ≡ Refused j) (AnsweredKinds f kinds b received r)
+          (r : Result KindsAnswer Refusal) × upon k (λ j. r ≡ Refused j) (AnsweredKinds f kinds b received r)
       go zero e =
           let h = window_kinds_accepted f kinds b a received others e in
           let w = file_fits f h.list.file 0 received b (omega (arith, h.long)) in
           let v = kinds_answer_of (kind_of kinds) (fitting_word (coder_of f) (starts_of f 0) received b) in
-          (Answered v, record { answer = v; is = refl; right = holds_kinds_right (kind_of kinds) w })
+          (Ok v, record { answer = v; is = refl; right = holds_kinds_right (kind_of kinds) w })
       go (suc k) e = (Refused (suc k), refl)

@@ -3,23 +3,18 @@
 
 ghost use Rattle.window_kinds.specs.Window.{WindowKindsPromise};
 
+use coder::refusal::Refusal;
+
 pub mod inner; // inner.rt: the decoder with lent buffers; no public calls
 
 // What the letters of one window say: the letter that alone fits, else the kind that all fitting letters share; no letter, or letters of
 // several kinds.
-#[derive(Clone, Copy)]
+#[derive(Clone, Copy, PartialEq, Eq)]
 pub enum KindsAnswer {
     Letter(u8),
     Kind(u8),
     None,
     Several,
-}
-
-// The refusal's number, or the answer.
-#[derive(Clone, Copy)]
-pub enum WindowKindsResult {
-    Refused(usize),
-    Answered(KindsAnswer),
 }
 
 // Decodes one window of received letters, with settle count 0, to a letter or a kind. `kinds` has a byte for each input letter. The file's
@@ -30,7 +25,7 @@ pub fn window_kinds(
     before: usize,
     after: usize,
     received: &[u8],
-) -> WindowKindsResult
+) -> Result<KindsAnswer, Refusal>
     ensures { WindowKindsPromise file.now kinds.now before after received.now result }
 {
     inner::window_kinds(file, kinds, before, after, received, true)

@@ -1,15 +1,17 @@
--- Sides, settle counts and received letters that are not refused are within the limits, and the other way round.
+-- Sides, settle counts and received letters that are not refused are within the limits, and the other way round. Each refusal is a number
+-- of the list.
 use mathlib.Core.Path.{◌≡◌}
 use mathlib.Core.Bool.{Bool, true, not}
 use mathlib.Core.List.{List}
 use Prim.Native.Nat.{ℕ, ◌≤◌}
+use native.Mathlib.Omega.{arith}
 use lib.ListN.{length}
 use lib.Dec.{lit<, leb, eqb}
 use borrow.Author.Tests.{leb-true, le-leb, eqb-true}
 use Rattle.mealy.specs.Machine.{Letters}
 use Rattle.coder.specs.Limits.{max_side, max_settle}
 use Rattle.coder.specs.Refusal.{refuse, letters_below}
-use Rattle.coder.proofs.Refusals.{both_true, refuse_not, letters_below_lem}
+use Rattle.coder.proofs.Refusals.{both_true, refuse_not, refuse_either, letters_below_lem}
 use Rattle.window_limits.specs.Refusal.{sides_refusal, settle_refusal, received_refusal, SidesSmall}
 
 pub sides_accepted : (b a : ℕ) → sides_refusal b a ≡ 0 → SidesSmall b a
@@ -43,3 +45,13 @@ received_accepted n o received fit e =
     let h = refuse_not fit _ _ (lit< tt) q.1 in
     let s = refuse_not (letters_below o received) _ _ (lit< tt) h.1 in
     record { long = eqb-true _ _ q.0; fits = h.0; letters = letters_below_lem o received s.0 }
+
+-- ---- each refusal is a number of the list
+
+pub sides_known : (b a : ℕ) → sides_refusal b a ≤ 17
+unfolding sides_refusal
+sides_known b a = refuse_either (λ k. k ≤ 17) _ 8 0 (omega arith) (omega arith)
+
+pub settle_known : (p : ℕ) → settle_refusal p ≤ 17
+unfolding settle_refusal
+settle_known p = refuse_either (λ k. k ≤ 17) _ 14 0 (omega arith) (omega arith)

@@ -1,5 +1,5 @@
 -- The file put together in the lent buffer, and what a call that is not refused may rely on.
-use mathlib.Core.Path.{◌≡◌, refl, sym, ap, subst}
+use mathlib.Core.Path.{◌≡◌, refl, sym, ap, subst, ◌∙◌}
 use mathlib.Core.Bool.{Bool, true}
 use mathlib.Core.List.{List, ◌++◌}
 use Prim.Native.Nat.{ℕ, ◌+◌, ◌≤◌}
@@ -9,10 +9,12 @@ use lib.Dec.{lit<, leb}
 use borrow.Author.Tests.{leb-true, le-leb}
 use Rattle.coder.specs.BigEndian.{big_endian}
 use Rattle.coder.specs.File.{file_of, entries_refusal}
-use Rattle.coder.proofs.Refusals.{refuse_not, first_none, both_true, refused_answer}
+use Rattle.coder.proofs.Refusals.{refuse_not, first_none, both_true}
 use Rattle.coder.proofs.Accepted.{entries_accepted, entries_high}
-use Rattle.values.specs.declared.CountResult.{CountResult}
-use Rattle.values.specs.declared.CountResult.TheVariants.{Refused, Done}
+use Rattle.std.specs.Prelude.{Result, Ok, IsErrAnd}
+use Rattle.coder.specs.declared.refusal.Refusal.{Refusal}
+use Rattle.coder.specs.Refused.{number_of}
+use Rattle.coder.proofs.Refused.{handed_on, refused_returns, refused_leaves}
 use Rattle.placing.specs.Placed.{Placed}
 use Rattle.placing.proofs.Placing.{written_then, written_length, placed_front}
 use Rattle.writer.specs.Write.{write_refusal, write_refusal_in, FilePromise, WroteFile, WritePromise, first_six, FirstSixAsked, WriteAsked, FileWritten}
@@ -56,14 +58,18 @@ module _ {n i o : ℕ} {entries before : List ℕ} (q : WriteAsked n i o entries
           let p = placed_front (rw (e, ← file_parts n i o entries) at (written_then a b)) q.room in
           record { counted = p.0; bytes = p.1 }
 
+-- what the two parts of the file need
+pub ruleset parts_fit = (first_six_asked, first_six_fits, entries_fit)
+
 -- a call that writes a file: from what it was told and what its checked part gave to its promise
 module _ {k : ℕ} {file before : List ℕ} where
-  pub file_refused : {r : ℕ} → r ≡ k → (r ≡ 0 → ⊥) → FilePromise k file before (Refused r) before
-  file_refused e h = record { result = refused_answer _ _ _ e h; bytes = refused_answer _ _ _ e h }
+  pub file_refused :
+      (r : Result ℕ Refusal) (e : Refusal) → IsErrAnd r (λ x. x ≡ e) → number_of e ≡ k → FilePromise k file before r before
+  file_refused r e h n = record { result = handed_on r h ∙ refused_returns e k n _; bytes = refused_leaves e k n _ _ }
 
   pub file_done :
-      {count : ℕ} {after : List ℕ} → k ≡ 0 → FileWritten file before count after → FilePromise k file before (Done count) after
-  file_done z g = record { result = rw z (ap (λ m. Done m) g.counted); bytes = rw z g.bytes }
+      {count : ℕ} {after : List ℕ} → k ≡ 0 → FileWritten file before count after → FilePromise k file before (Ok count) after
+  file_done z g = record { result = rw z (ap (λ m. Ok m) g.counted); bytes = rw z g.bytes }
 
 -- a call whose refusal is 0
 pub record WriteAccepted (n i o : ℕ) (entries before : List ℕ) (others : Bool) : Type 0 where
@@ -83,7 +89,7 @@ write_accepted n i o entries before others e =
 
 -- Counts and entries within the limits whose file is f, and a buffer with room for it: each outcome is that file.
 pub write_given :
-    (n i o : ℕ) (entries before f : List ℕ) (r : CountResult) (after : List ℕ) → entries_refusal n i o entries ≡ 0 →
+    (n i o : ℕ) (entries before f : List ℕ) (r : Result ℕ Refusal) (after : List ℕ) → entries_refusal n i o entries ≡ 0 →
     file_of n i o entries ≡ f → length f ≤ length before → WritePromise n i o entries before r after → WroteFile f before r after
 unfolding write_refusal
 write_given n i o entries before f r after e same l p =

@@ -1,13 +1,15 @@
 // No public calls: the writer's refusal, the file of a checked call, and the writer with other lent buffers besides its own.
 ghost use Rattle.std.specs.Prelude.{◌≡◌};
 ghost use Rattle.coder.specs.File.{file_of};
+ghost use Rattle.coder.specs.Refused.{number_in};
 ghost use Rattle.writer.specs.Write.{write_refusal_in, first_six, FirstSixAsked, WriteAsked, FileWritten, WriteWith};
 
+use coder::refusal::Refusal;
 use placing::inner::put;
 use reader::inner::entries_refusal;
-use values::CountResult;
 
-// The refusal of a file to be written into a buffer of `room` bytes, or 0. `others` says whether all other lent buffers are long enough.
+// The refusal of a file to be written into a buffer of `room` bytes. `others` says whether all other lent buffers are long enough.
+#[tactic(auto, using(crate::proofs::Writing::length_file), unfolding(crate::specs::Write::write_refusal))]
 fn refusal(
     states: usize,
     inputs: usize,
@@ -15,22 +17,19 @@ fn refusal(
     entries: &[u8],
     room: usize,
     others: bool,
-) -> usize
-    ensures { result ≡ write_refusal_in states inputs outputs entries.now room others }
+) -> Result<(), Refusal>
+    ensures { number_in result ≡ write_refusal_in states inputs outputs entries.now room others }
 {
-    let k = entries_refusal(states, inputs, outputs, entries);
-    if k != 0 {
-        return k;
+    entries_refusal(states, inputs, outputs, entries)?;
+    if 6 + entries.len() <= room && others {
+        Ok(())
+    } else {
+        Err(Refusal::ShortBuffer)
     }
-    if 6 + entries.len() <= room {
-        if others {
-            return 0;
-        }
-    }
-    11
 }
 
 // The first six bytes of a file with `size` entry bytes: version, count field and counts.
+#[tactic(auto, unfolding(coder::specs::BigEndian::big_endian))]
 fn first_six(states: usize, inputs: usize, outputs: usize, size: usize) -> [u8; 6]
     requires { FirstSixAsked states inputs outputs size }
     ensures { result ≡ first_six states inputs outputs size }
@@ -47,6 +46,7 @@ fn first_six(states: usize, inputs: usize, outputs: usize, size: usize) -> [u8; 
 }
 
 // Writes the file, in a call that is not refused, and returns the number of its bytes.
+#[tactic(auto, using(crate::proofs::Writing::parts_fit))]
 pub fn checked(
     states: usize,
     inputs: usize,
@@ -63,6 +63,7 @@ pub fn checked(
 }
 
 // Writes the file, where `others` says whether the lent buffers besides `file` are long enough.
+#[tactic(auto, using(crate::proofs::Writing::write_accepted))]
 pub fn write(
     states: usize,
     inputs: usize,
@@ -70,13 +71,10 @@ pub fn write(
     entries: &[u8],
     file: &mut [u8],
     others: bool,
-) -> CountResult
+) -> Result<usize, Refusal>
     ensures { WriteWith states inputs outputs entries.now file.old others result file.new }
 {
-    let k = refusal(states, inputs, outputs, entries, file.len(), others);
-    if k != 0 {
-        return CountResult::Refused(k);
-    }
+    refusal(states, inputs, outputs, entries, file.len(), others)?;
     let count = checked(states, inputs, outputs, entries, file);
-    CountResult::Done { count }
+    Ok(count)
 }

@@ -3,7 +3,7 @@
 
 ghost use Rattle.writer.specs.Write.{WritePromise};
 
-use values::CountResult;
+use coder::refusal::Refusal;
 
 pub mod inner; // inner.rt: the writer with other lent buffers besides its own; no public calls
 
@@ -14,7 +14,7 @@ pub fn write(
     outputs: usize,
     entries: &[u8],
     file: &mut [u8],
-) -> CountResult
+) -> Result<usize, Refusal>
     ensures { WritePromise states inputs outputs entries.now file.old result file.new }
 {
     inner::write(states, inputs, outputs, entries, file, true)

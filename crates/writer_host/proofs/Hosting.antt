@@ -1,24 +1,25 @@
 -- The writer for a host in C: a call that is not refused has all lent buffers long enough, and its outcome is determined.
-use mathlib.Core.Path.{◌≡◌, refl, ap}
+use mathlib.Core.Path.{◌≡◌, ap}
 use mathlib.Core.Bool.{Bool, true}
 use mathlib.Core.List.{List}
 use Prim.Native.Nat.{ℕ}
 use lib.ListN.{length}
-use Rattle.values.specs.declared.CountResult.{CountResult}
-use Rattle.values.specs.declared.CountResult.TheVariants.{Refused}
+use mathlib.Core.List.{[], ◌∷◌}
+use Rattle.std.specs.Prelude.{Result}
+use Rattle.coder.specs.declared.refusal.Refusal.{Refusal}
 use Rattle.layout.specs.Host.{laid_count}
-use Rattle.layout.proofs.Hosting.{not_refused, same_host_buffer}
+use Rattle.layout.proofs.Hosting.{no_refusal, same_host_buffer}
 use Rattle.writer.specs.Write.{write_refusal_in, WriteWith}
 use Rattle.writer_host.specs.Laid.{WriteFromHost}
 use Rattle.writer.proofs.Writing.{write_accepted}
 use Rattle.writer.proofs.Determined.{write_determined}
 
 pub write_others :
-    (n i o : ℕ) (entries before after : List ℕ) (others : Bool) (r : CountResult) → WriteWith n i o entries before others r after →
+    (n i o : ℕ) (entries before after : List ℕ) (others : Bool) (r : Result ℕ Refusal) → WriteWith n i o entries before others r after →
     (laid_count r).returned ≡ 0 → others ≡ true
 write_others n i o entries before after others r p z =
     (write_accepted n i o entries before others
-    (not_refused laid_count (write_refusal_in n i o entries (length before) others) (λ j. Refused j) _ (λ j. refl) p.result z)).fits
+    (no_refusal (λ m. m ∷ []) (write_refusal_in n i o entries (length before) others) _ _ p.result z)).fits
 
 pub write_host_determined :
     (n i o : ℕ) (entries before result : List ℕ) (r q : ℕ) (after after₂ result' result₂ : List ℕ) →

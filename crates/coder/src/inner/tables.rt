@@ -4,7 +4,6 @@ ghost use Rattle.coder.specs.Limits.{max_states, max_inputs};
 ghost use Rattle.coder.specs.File.{entries_refusal, file_refusal, entry_of};
 ghost use Rattle.coder.specs.Table.{coder_of_entries, coder_of, table_of, table_at, limits_of, Tabled};
 
-use crate::inner::bytes::{byte, number};
 use crate::inner::file::entries;
 
 // A coder: the entry of state s and input letter i stands at 16 s + i of both tables; the other places hold 0.
@@ -53,16 +52,16 @@ impl Coder {
 
 // A byte of the entry of state s and letter i: offset 0 has the next state, offset 1 the output letter; 0 where there is no such
 // entry.
+#[tactic(auto, unfolding(crate::specs::File::entry_of))]
 fn entry_byte(states: usize, inputs: usize, entries: &[u8], offset: usize, s: usize, i: usize) -> u8
     requires { (length entries.now ≡ 2 * (states * inputs)) × (offset < 2) }
     ensures { result ≡ entry_of states inputs entries.now offset s i }
 {
-    if s < states {
-        if i < inputs {
-            return entries[2 * (inputs * s + i) + offset];
-        }
+    if s < states && i < inputs {
+        entries[2 * (inputs * s + i) + offset]
+    } else {
+        0
     }
-    0
 }
 
 // One table: offset 0 has the next states, offset 1 the output letters.
@@ -70,10 +69,8 @@ fn entry_table(states: usize, inputs: usize, entries: &[u8], offset: usize) -> [
     requires { Tabled states inputs entries.now offset }
     ensures { result ≡ table_of states inputs entries.now offset }
 {
-    let end = Coder::INPUTS * states;
     let mut table = [0u8; 256];
-    let mut k = 0;
-    while k < end {
+    for k in 0..Coder::INPUTS * states {
         table[k] = entry_byte(
             states,
             inputs,
@@ -82,7 +79,6 @@ fn entry_table(states: usize, inputs: usize, entries: &[u8], offset: usize) -> [
             k / Coder::INPUTS,
             k % Coder::INPUTS,
         );
-        k += 1;
     }
     table
 }
@@ -103,18 +99,25 @@ impl Coder {
     }
 
     // The coder of a checked file.
+    #[tactic(auto, using(crate::proofs::Accepted::accepted_long, crate::proofs::Accepted::file_entries), unfolding(crate::specs::Table::coder_of))]
     pub fn from_checked(file: &[u8]) -> Self
         requires { file_refusal file.now ≡ 0 }
         ensures { result ≡ coder_of file.now }
     {
-        Coder::from_entries(byte(file, 3), byte(file, 4), byte(file, 5), entries(file))
+        Coder::from_entries(
+            usize::from(file[3]),
+            usize::from(file[4]),
+            usize::from(file[5]),
+            entries(file),
+        )
     }
 }
 
 // What a table holds for state s and letter i.
+#[tactic(auto, unfolding(crate::specs::Table::table_at))]
 pub fn entry(table: &[u8; 256], s: usize, i: usize) -> usize
     requires { (s < max_states) × (i < max_inputs) }
     ensures { (result ≡ table_at table.now s i) × (result < 256) }
 {
-    number(table[Coder::INPUTS * s + i])
+    usize::from(table[Coder::INPUTS * s + i])
 }

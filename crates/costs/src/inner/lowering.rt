@@ -6,6 +6,7 @@ ghost use Rattle.costs.specs.Lowering.{RowCost, NextCost, PassAsked, PassDone, L
 
 use coder::inner::tables::Coder;
 use first_pair::inner::NO_COST;
+use setting::inner::members::Members;
 
 // The least cost of a pair (x, y), y in the row, where one is below `cap`.
 fn least_in_row(t: &[usize; 256], x: usize, row: u16, cap: usize) -> usize
@@ -13,29 +14,20 @@ fn least_in_row(t: &[usize; 256], x: usize, row: u16, cap: usize) -> usize
     ensures { Capped (RowCost t.now x row) cap result }
 {
     let mut least = cap;
-    let mut rest = row;
-    while rest != 0 {
-        let y = u16::trailing_zeros(rest) as usize;
-        let cost = t[Coder::STATES * x + y];
-        rest = rest & (rest - 1);
-        if cost < least {
-            least = cost;
-        }
+    for y in Members::of(row) {
+        least = least.min(t[Coder::STATES * x + y]);
     }
     least
 }
 
-// The least cost of a pair that follows the pair a, where one is below `cap`.
-fn least_next(words: &[u16; 4096], t: &[usize; 256], states: usize, a: usize, cap: usize) -> usize
+// The least cost of a pair that follows the pair a, or no cost.
+fn least_next(words: &[u16; 4096], t: &[usize; 256], states: usize, a: usize) -> usize
     requires { PairWords words.now × (states ≤ 16) × (a < 256) }
-    ensures { Capped (NextCost words.now t.now states a) cap result }
+    ensures { Capped (NextCost words.now t.now states a) no_cost result }
 {
-    let mut least = cap;
-    let mut x = 0;
-    while x < states {
-        let row = words[Coder::STATES * a + x];
-        least = least_in_row(t, x, row, least);
-        x += 1;
+    let mut least = NO_COST;
+    for x in 0..states {
+        least = least_in_row(t, x, words[Coder::STATES * a + x], least);
     }
     least
 }
@@ -45,13 +37,8 @@ fn least_of(t: &[usize; 256]) -> usize
     ensures { ((k : ℕ) → k < 256 → result ≤ get_or t.now k 0) × (result ≤ no_cost) }
 {
     let mut least = NO_COST;
-    let mut k = 0;
-    while k < 256 {
-        let cost = t[k];
-        k += 1;
-        if cost < least {
-            least = cost;
-        }
+    for cost in t {
+        least = least.min(*cost);
     }
     least
 }
@@ -63,12 +50,10 @@ fn pass(words: &[u16; 4096], states: usize, step: usize, low: usize, t: &mut [us
     ensures { PassDone words.now states step low t.old t.new result }
 {
     let mut fell = false;
-    let mut a = Coder::STATES * states;
-    while 0 < a {
-        a -= 1;
+    for a in (0..Coder::STATES * states).rev() {
         let cost = t[a];
         if low + step < cost {
-            let next = least_next(words, t, states, a, NO_COST) + step;
+            let next = least_next(words, t, states, a) + step;
             if next < cost {
                 t[a] = next;
                 fell = true;
@@ -84,8 +69,6 @@ pub fn lower_costs(words: &[u16; 4096], states: usize, step: usize, t: &mut [usi
     ensures { CostTable t.new × LoweringDone words.now states step t.old t.new }
 {
     let low = least_of(t);
-    let mut fell = true;
-    while fell {
-        fell = pass(words, states, step, low, t);
-    }
+    // A while loop: a pass says whether there is another.
+    while pass(words, states, step, low, t) {}
 }

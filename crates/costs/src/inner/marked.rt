@@ -1,94 +1,61 @@
 // The costs of conflicting edges: a letter, and the cost of the pair that the edge leads to.
-ghost use Rattle.std.specs.Prelude.{ℕ, ◌<◌, get_or};
-ghost use Rattle.first_pair.specs.Cost.{CostTable, Capped};
+ghost use Rattle.std.specs.Prelude.{ℕ, ◌-◌, ◌<◌, get_or};
+ghost use Rattle.first_pair.specs.Cost.{CostTable, Capped, no_cost, letter_cost};
 ghost use Rattle.costs.specs.Marked.{OnLetters, OnConflict, EdgesAsked, MarkedAsked, MarkedDone};
 
-use coder::inner::bytes::number;
 use coder::inner::tables::Coder;
 use first_pair::inner::{LETTER_COST, NO_COST};
+use setting::inner::members::Members;
 
 // The least cost of a pair (x, y), y the next state of v on a letter of the row, where one is below `cap`.
-fn least_on<'a>(
-    next: &'a [u8; 256],
-    t: &'a [usize; 256],
-    x: usize,
-    v: usize,
-    row: u16,
-    cap: usize,
-) -> usize
-    requires { (x < 16) × (v < 16) × ((p : ℕ) → get_or next.now p 0 < 16) }
-    ensures { Capped (OnLetters next.now t.now x v row) cap result }
+fn least_on(c: &Coder, t: &[usize; 256], x: usize, v: usize, row: u16, cap: usize) -> usize
+    requires { (x < 16) × (v < 16) × ((p : ℕ) → get_or c.now.next p 0 < 16) }
+    ensures { Capped (OnLetters c.now.next t.now x v row) cap result }
 {
     let mut least = cap;
-    let mut rest = row;
-    while rest != 0 {
-        let j = u16::trailing_zeros(rest) as usize;
-        let y = number(next[Coder::INPUTS * v + j]);
-        let cost = t[Coder::STATES * x + y];
-        rest = rest & (rest - 1);
-        if cost < least {
-            least = cost;
-        }
+    for j in Members::of(row) {
+        let y = usize::from(c.next[Coder::INPUTS * v + j]);
+        least = least.min(t[Coder::STATES * x + y]);
     }
     least
 }
 
-// The least cost of a pair that a conflicting edge of (u, v) leads to, where one is below `cap`.
-fn least_conflict<'a>(
-    next: &'a [u8; 256],
-    output: &'a [u8; 256],
-    letters: &'a [u16; 1024],
-    conflicts: &'a [u16; 16],
-    t: &'a [usize; 256],
-    inputs: usize,
+// The least cost of a pair that a conflicting edge of (u, v) leads to, where one is below that of the most letters but one.
+fn least_conflict(
+    c: &Coder,
+    letters: &[u16; 1024],
+    conflicts: &[u16; 16],
+    t: &[usize; 256],
     u: usize,
     v: usize,
-    cap: usize,
 ) -> usize
-    requires { EdgesAsked next.now output.now inputs × (u < 16) × (v < 16) }
-    ensures { Capped (OnConflict next.now output.now letters.now conflicts.now t.now inputs u v) cap result }
+    requires { EdgesAsked c.now.next c.now.output c.now.inputs × (u < 16) × (v < 16) }
+    ensures { Capped (OnConflict c.now.next c.now.output letters.now conflicts.now t.now c.now.inputs u v) (no_cost - letter_cost) result }
 {
-    let mut least = cap;
-    let mut i = 0;
-    while i < inputs {
+    let mut least = NO_COST - LETTER_COST;
+    for i in 0..c.inputs {
         let p = Coder::INPUTS * u + i;
-        let row = letters[Coder::STATES * number(output[p]) + v] & conflicts[i];
-        least = least_on(next, t, number(next[p]), v, row, least);
-        i += 1;
+        let row = letters[Coder::STATES * usize::from(c.output[p]) + v] & conflicts[i];
+        least = least_on(c, t, usize::from(c.next[p]), v, row, least);
     }
     least
 }
 
 // The least cost, for each pair, of a conflicting letter and what follows it.
-pub fn marked<'a>(
-    c: Coder,
-    letters: &'a [u16; 1024],
-    conflicts: &'a [u16; 16],
-    t: &'a [usize; 256],
+pub fn marked(
+    c: &Coder,
+    letters: &[u16; 1024],
+    conflicts: &[u16; 16],
+    t: &[usize; 256],
 ) -> [usize; 256]
-    requires { MarkedAsked c letters.now }
-    ensures { CostTable result × MarkedDone c conflicts.now t.now result }
+    requires { MarkedAsked c.now letters.now }
+    ensures { CostTable result × MarkedDone c.now conflicts.now t.now result }
 {
-    let states = c.states;
-    let inputs = c.inputs;
     let mut table = [NO_COST; 256];
-    let mut a = 0;
-    while a < Coder::STATES * states {
+    for a in 0..Coder::STATES * c.states {
         let u = a / Coder::STATES;
         let v = a % Coder::STATES;
-        let cost = least_conflict(
-            &c.next,
-            &c.output,
-            letters,
-            conflicts,
-            t,
-            inputs,
-            u,
-            v,
-            NO_COST - LETTER_COST,
-        );
-        table[a] = LETTER_COST + cost;
-        a += 1;
+        table[a] = LETTER_COST + least_conflict(c, letters, conflicts, t, u, v);
     }
     table
 }

@@ -4,23 +4,15 @@ ghost use Rattle.mealy.specs.Word.{Has};
 ghost use Rattle.cycles.specs.Successors.{Rows, PairWords, word_at, WithBesides, FollowsRow, FollowsSet, ExactlyPairs, Parted};
 
 use coder::inner::tables::Coder;
-
-// No pair.
-pub fn empty() -> [u16; 16]
-    ensures { Rows result × ((x : ℕ) → get_or result x 0 ≡ 0) }
-{
-    [0u16; 16]
-}
+use setting::inner::members::Members;
 
 // Adds the successors of the pair a.
 pub fn add_pair(words: &[u16; 4096], a: usize, set: &mut [u16; 16])
     requires { PairWords words.now × (a < 256) × Rows set.old }
     ensures { WithBesides (λ x y. Has (word_at words.now a x) y) set.old set.new }
 {
-    let mut x = 0;
-    while x < Coder::STATES {
-        set[x] = set[x] | words[Coder::STATES * a + x];
-        x += 1;
+    for x in 0..Coder::STATES {
+        set[x] |= words[Coder::STATES * a + x];
     }
 }
 
@@ -29,11 +21,8 @@ pub fn add_row(words: &[u16; 4096], u: usize, row: u16, set: &mut [u16; 16])
     requires { PairWords words.now × (u < 16) × Rows set.old }
     ensures { WithBesides (FollowsRow words.now u row) set.old set.new }
 {
-    let mut rest = row;
-    while rest != 0 {
-        let v = u16::trailing_zeros(rest) as usize;
+    for v in Members::of(row) {
         add_pair(words, Coder::STATES * u + v, set);
-        rest = rest & (rest - 1);
     }
 }
 
@@ -42,11 +31,9 @@ pub fn image(words: &[u16; 4096], states: usize, set: &[u16; 16]) -> [u16; 16]
     requires { PairWords words.now × (states ≤ 16) × Rows set.now }
     ensures { ExactlyPairs (FollowsSet words.now states set.now) result }
 {
-    let mut to = empty();
-    let mut u = 0;
-    while u < states {
+    let mut to = [0; 16];
+    for u in 0..states {
         add_row(words, u, set[u], &mut to);
-        u += 1;
     }
     to
 }
@@ -56,16 +43,9 @@ pub fn part(to: &mut [u16; 16], seen: &mut [u16; 16]) -> bool
     requires { Rows to.old × Rows seen.old }
     ensures { Parted to.old seen.old to.new seen.new result }
 {
-    let mut some = false;
-    let mut x = 0;
-    while x < Coder::STATES {
-        let fresh = to[x] & (65535 - seen[x]);
-        to[x] = fresh;
-        seen[x] = seen[x] | fresh;
-        if fresh != 0 {
-            some = true;
-        }
-        x += 1;
+    for x in 0..Coder::STATES {
+        to[x] &= !seen[x];
+        seen[x] |= to[x];
     }
-    some
+    to.iter().any(|row| *row != 0)
 }

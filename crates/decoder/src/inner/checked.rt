@@ -3,7 +3,10 @@ ghost use Rattle.std.specs.Prelude.{◌≡◌, true};
 ghost use Rattle.decoder_refusal.specs.Refusal.{window_refusal};
 ghost use Rattle.mealy.specs.Answer.{Fits};
 ghost use Rattle.mealy.specs.Word.{Holds};
-ghost use Rattle.fitting.specs.Tables.{DecodedIn};
+ghost use Rattle.coder.specs.File.{file_refusal};
+ghost use Rattle.coder.specs.Table.{coder_of};
+ghost use Rattle.setting.specs.Words.{setting_of_coder};
+ghost use Rattle.fitting.specs.Tables.{TablesOf};
 ghost use Rattle.decoder.specs.Window.{window_setting, RightOf};
 ghost use Rattle.decoder.specs.Places.{StringAsked, StringGiven};
 ghost use Rattle.decoder.specs.Table.{TableAsked, TableGiven};
@@ -13,31 +16,21 @@ use chains::inner::rows_by_key;
 use coder::inner::tables::Coder;
 use decoder_refusal::inner::sizes;
 use filling::inner::table::fill;
-use fitting::inner::answer::answer_of;
-use fitting::inner::tables::of_coder;
-use fitting::inner::window::{Decoded, decode};
+use fitting::Answer;
+use fitting::inner::tables::Sets;
 use starts::inner::start_states;
 use table_size::inner::size;
 use values::Window;
 
-// What a window of received letters decodes to.
-fn decode_one(file: &[u8], w: Window, received: &[u8]) -> Decoded
-    requires { window_refusal file.now w received.now true ≡ 0 }
-    ensures { DecodedIn (window_setting file.now w) received.now w.before result.letters result.far }
+// What decodes the windows of an accepted file with a settle count.
+fn sets_of(file: &[u8], settle: usize) -> Sets
+    requires { file_refusal file.now ≡ 0 }
+    ensures tables { TablesOf (coder_of file.now) result.next result.successors result.predecessors result.letters result.starts }
+    ensures starts { Holds (setting_of_coder (coder_of file.now) settle).Start result.starts }
 {
     let c = Coder::from_checked(file);
-    let starts = start_states(c, w.settle);
-    let sets = of_coder(c);
-    let place = w.before;
-    decode(
-        &c.next,
-        &sets.successors,
-        &sets.predecessors,
-        &sets.letters,
-        starts,
-        received,
-        place,
-    )
+    let starts = start_states(&c, settle);
+    Sets::of_coder(&c, starts)
 }
 
 // The letters that fit a window of received letters.
@@ -45,17 +38,15 @@ pub fn letters(file: &[u8], w: Window, received: &[u8]) -> u16
     requires { window_refusal file.now w received.now true ≡ 0 }
     ensures { Holds (Fits (window_setting file.now w) received.now w.before) result }
 {
-    let found = decode_one(file, w, received);
-    found.letters
+    sets_of(file, w.settle).fitting(received, w.before)
 }
 
 // Decodes one window of received letters.
-pub fn window(file: &[u8], w: Window, received: &[u8]) -> fitting::Answer
+pub fn window(file: &[u8], w: Window, received: &[u8]) -> Answer
     requires { window_refusal file.now w received.now true ≡ 0 }
     ensures { RightOf file.now w received.now result }
 {
-    let found = decode_one(file, w, received);
-    answer_of(found.letters, found.far)
+    sets_of(file, w.settle).decode(received, w.before)
 }
 
 // Decodes each place of a string that has a full window; returns how many bytes were written.
@@ -63,25 +54,10 @@ pub fn string(file: &[u8], w: Window, received: &[u8], output: &mut [u8]) -> usi
     requires { StringAsked file.now w received.now output.old }
     ensures { StringGiven file.now w received.now output.old result output.new }
 {
-    let c = Coder::from_checked(file);
-    let settle = w.settle;
-    let starts = start_states(c, settle);
-    let sets = of_coder(c);
-    let present = w.before;
+    let sets = sets_of(file, w.settle);
     let n = sizes::letters(w);
     let count = sizes::places(received.len(), w);
-    decode_places(
-        &c.next,
-        &sets.successors,
-        &sets.predecessors,
-        &sets.letters,
-        starts,
-        received,
-        present,
-        n,
-        count,
-        output,
-    );
+    decode_places(&sets, received, w.before, n, count, output);
     count
 }
 
@@ -91,24 +67,10 @@ pub fn table(file: &[u8], w: Window, table: &mut [u8]) -> usize
     ensures { TableGiven file.now w table.old result table.new }
 {
     let c = Coder::from_checked(file);
-    let states = c.states;
-    let inputs = c.inputs;
-    let outputs = c.outputs;
-    let rows = rows_by_key(&c.output, states, inputs);
-    let ahead = w.settle;
-    let starts = start_states(c, ahead);
-    let b = w.before;
+    let rows = rows_by_key(&c.output, c.states, c.inputs);
+    let starts = start_states(&c, w.settle);
     let n = sizes::letters(w);
-    let count = size(outputs, n);
-    fill(
-        &c.next,
-        &rows.start,
-        &rows.entries,
-        outputs,
-        starts,
-        n,
-        b,
-        &mut table[..count],
-    );
+    let count = size(c.outputs, n);
+    fill(&c, &rows, starts, n, w.before, &mut table[..count]);
     count
 }

@@ -1,4 +1,4 @@
--- `string` meets its promise: the library's own call, laid out.
+-- `string` meets its promise: the library's own call, laid out. A call that is not refused has room for its result.
 use borrow.Author.Tests.{leb-true}
 use Rattle.coder.proofs.Refusals.{via}
 use Rattle.decoder_host.proofs.Hosting.{string_enough}
@@ -7,7 +7,3 @@ use Rattle.decoder_host.proofs.string.Goals as goal
 pub put_count-requires : goal.put_count-requires
 put_count-requires c =
     λ z. leb-true _ _ (via c.roomy.ensures (string_enough _ _ _ _ _ _ _ c.string-own.ensures z))
-
-pub returns : goal.returns
-returns c =
-    record { own = c.string-own.result; promised = rw c.roomy.ensures at c.string-own.ensures; out = c.put_count.ensures }

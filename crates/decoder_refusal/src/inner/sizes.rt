@@ -19,6 +19,5 @@ pub fn places(len: usize, w: Window) -> usize
     requires { SidesSmall w.before w.after }
     ensures { result ≡ places_of len w }
 {
-    let sides = w.before + w.after;
-    if len < sides { 0 } else { len - sides }
+    len.saturating_sub(w.before + w.after)
 }

@@ -14,6 +14,7 @@ pub const SEVERAL: u8 = 255;
 pub const UNCOUNTED: usize = 0;
 
 // With no letter, none with the count `far`; with more letters than its greatest one, several.
+#[tactic(auto, using(crate::proofs::Answers::answering), unfolding(crate::specs::Answer::answer_of))]
 pub fn answer_of(u: u16, far: usize) -> Answer
     ensures { result ≡ answer_of u far }
 {

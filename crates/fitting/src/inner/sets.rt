@@ -6,9 +6,9 @@ ghost use Rattle.mealy.specs.Image.{Image, Following, FarIn, Leading};
 ghost use Rattle.coder.specs.Limits.{max_states, max_inputs, max_outputs};
 ghost use Rattle.fitting.specs.Tables.{Words, Leads, Between};
 
-use coder::inner::bytes::{byte, number};
 use coder::inner::tables::Coder;
 use setting::inner::has;
+use setting::inner::members::Members;
 
 // The union of the words of output letter o over a set of states: with the successors, the states that follow them.
 pub fn image(words: &[u16; 1024], o: usize, set: u16) -> u16
@@ -16,11 +16,8 @@ pub fn image(words: &[u16; 1024], o: usize, set: u16) -> u16
     ensures { Holds (Image (Leads words.now o) (Has set)) result }
 {
     let mut to = 0u16;
-    let mut rest = set;
-    while rest != 0 {
-        let s = u16::trailing_zeros(rest) as usize;
-        to = to | words[Coder::STATES * o + s];
-        rest = rest & (rest - 1);
+    for s in Members::of(set) {
+        to |= words[Coder::STATES * o + s];
     }
     to
 }
@@ -31,13 +28,11 @@ pub fn follow(successors: &[u16; 1024], w: &[u8], set: u16) -> u16
     ensures { Holds (Following (Leads successors.now) (Has set) w.now) result }
 {
     let mut to = set;
-    let mut k = 0;
-    while k < w.len() {
+    for &y in w {
         if to == 0 {
             return 0;
         }
-        to = image(successors, byte(w, k), to);
-        k += 1;
+        to = image(successors, usize::from(y), to);
     }
     to
 }
@@ -49,16 +44,14 @@ pub fn how_far(successors: &[u16; 1024], w: &[u8], set: u16) -> usize
     ensures { FarIn (Leads successors.now) (Has set) w.now result }
 {
     let mut to = set;
-    let mut k = 0;
-    while k < w.len() {
-        let next = image(successors, byte(w, k), to);
+    for (k, &y) in w.iter().enumerate() {
+        let next = image(successors, usize::from(y), to);
         if next == 0 {
             return k;
         }
         to = next;
-        k += 1;
     }
-    k
+    w.len()
 }
 
 // The states from which all letters of w can be produced.
@@ -67,13 +60,11 @@ pub fn lead(predecessors: &[u16; 1024], w: &[u8]) -> u16
     ensures { Holds (Leading (Leads predecessors.now) (λ s. s < max_states) w.now) result }
 {
     let mut from = 65535u16;
-    let mut k = w.len();
-    while 0 < k {
+    for &y in w.iter().rev() {
         if from == 0 {
             return 0;
         }
-        k -= 1;
-        from = image(predecessors, byte(w, k), from);
+        from = image(predecessors, usize::from(y), from);
     }
     from
 }
@@ -83,7 +74,7 @@ fn on_letter(next: &[u8; 256], s: usize, x: usize, from: u16) -> u16
     requires { (s < max_states) × (x < max_inputs) × ((k : ℕ) → get_or next.now k 0 < max_states) }
     ensures { Holds (λ y. (y ≡ x) × Has from (get_or next.now (16 * s + x) 0)) result }
 {
-    if has(from, number(next[Coder::INPUTS * s + x])) {
+    if has(from, usize::from(next[Coder::INPUTS * s + x])) {
         1u16 << x
     } else {
         0
@@ -96,32 +87,20 @@ fn of_state(next: &[u8; 256], s: usize, letters: u16, from: u16) -> u16
     ensures { Holds (λ x. Has letters x × Has from (get_or next.now (16 * s + x) 0)) result }
 {
     let mut fit = 0u16;
-    let mut rest = letters;
-    while rest != 0 {
-        let x = u16::trailing_zeros(rest) as usize;
-        fit = fit | on_letter(next, s, x, from);
-        rest = rest & (rest - 1);
+    for x in Members::of(letters) {
+        fit |= on_letter(next, s, x, from);
     }
     fit
 }
 
 // The letters of the entries with output letter o that lead from the states of `set` to states of `from`.
-pub fn between<'a>(
-    next: &'a [u8; 256],
-    letters: &'a [u16; 1024],
-    o: usize,
-    set: u16,
-    from: u16,
-) -> u16
+pub fn between(next: &[u8; 256], letters: &[u16; 1024], o: usize, set: u16, from: u16) -> u16
     requires { Words letters.now × (o < max_outputs) × ((k : ℕ) → get_or next.now k 0 < max_states) }
     ensures { Holds (Image (Between next.now letters.now o from) (Has set)) result }
 {
     let mut fit = 0u16;
-    let mut rest = set;
-    while rest != 0 {
-        let s = u16::trailing_zeros(rest) as usize;
-        fit = fit | of_state(next, s, letters[Coder::STATES * o + s], from);
-        rest = rest & (rest - 1);
+    for s in Members::of(set) {
+        fit |= of_state(next, s, letters[Coder::STATES * o + s], from);
     }
     fit
 }

@@ -1,104 +1,81 @@
 // The letters of the first looped pair, part by part.
-ghost use Rattle.std.specs.Prelude.{◌<◌};
-ghost use Rattle.first_pair.specs.Cost.{CostTable};
-ghost use Rattle.loops.specs.Parts.{OnlyAt, ClosedAsked, ClosedWritten, MarkAsked, MarkWritten, BetweenAsked, BetweenDone};
+ghost use Rattle.loops.specs.Parts.{ClosedAsked, ClosedWritten, MarkAsked, MarkWritten, BetweenAsked, BetweenDone};
 
+use crate::inner::tables::CostTables;
 use crate::inner::{IN_COST, OUT_COST};
 use coder::inner::tables::Coder;
 use costs::inner::lowering::lower_costs;
 use first_pair::inner::{LETTER_COST, NO_COST};
-use letters::inner::{after, lowest, write};
+use letters::inner::{WalkCosts, after, lowest, write, write_at};
 use values::LoopedPair;
-
-// The cost 0 at the pair a, and none at any other.
-fn only(a: usize) -> [usize; 256]
-    requires { a < 256 }
-    ensures { CostTable result × OnlyAt a result }
-{
-    let mut t = [NO_COST; 256];
-    t[a] = 0;
-    t
-}
 
 // Writes the lowest letters of a shortest closed walk at the pair a, from `place` on.
 pub fn write_closed(
-    c: Coder,
+    c: &Coder,
     words: &[u16; 4096],
     a: usize,
     n: usize,
     place: usize,
     letters: &mut [u8],
 )
-    requires { ClosedAsked c words.now a n place letters.old }
-    ensures { ClosedWritten c a n place letters.old letters.new }
+    requires { ClosedAsked c.now words.now a n place letters.old }
+    ensures { ClosedWritten c.now a n place letters.old letters.new }
 {
-    let states = c.states;
-    let inputs = c.inputs;
-    let mut to = only(a);
-    lower_costs(words, states, 1, &mut to);
-    write(&c.next, &c.output, inputs, &to, 1, 0, a, n, place, letters);
+    let mut to = [NO_COST; 256];
+    to[a] = 0;
+    lower_costs(words, c.states, 1, &mut to);
+    let costs = WalkCosts {
+        table: &to,
+        step: 1,
+        base: 0,
+    };
+    write(c, &costs, a, n, place, letters);
 }
 
 // Writes the lowest conflicting letters on an edge from the pair a to a pair that costs `want`, at `place`. Gives that pair.
-fn write_mark<'a>(
-    c: Coder,
-    conflicts: &'a [u16; 16],
-    tails: &'a [usize; 256],
+fn write_mark(
+    c: &Coder,
+    conflicts: &[u16; 16],
+    tails: &[usize; 256],
     a: usize,
     want: usize,
     place: usize,
     letters: &mut [u8],
 ) -> usize
-    requires { MarkAsked c conflicts.now tails.now a want place letters.old }
-    ensures { MarkWritten c conflicts.now tails.now a want place letters.old letters.new result }
+    requires { MarkAsked c.now conflicts.now tails.now a want place letters.old }
+    ensures { MarkWritten c.now conflicts.now tails.now a want place letters.old letters.new result }
 {
-    let inputs = c.inputs;
-    let x = lowest(&c.next, &c.output, inputs, conflicts, tails, a, want);
-    letters[2 * place] = (x / Coder::INPUTS) as u8;
-    letters[2 * place + 1] = (x % Coder::INPUTS) as u8;
+    let x = lowest(c, conflicts, tails, a, want);
+    write_at(letters, place, x);
     after(&c.next, a, x)
 }
 
 // Writes lead-in, differing letter and lead-out. Gives the pair where the lead-out ends.
-pub fn write_between<'a>(
-    c: Coder,
-    conflicts: &'a [u16; 16],
-    tails: &'a [usize; 256],
-    heads: &'a [usize; 256],
+pub fn write_between(
+    c: &Coder,
+    conflicts: &[u16; 16],
+    costs: &CostTables,
     p: LoopedPair,
     letters: &mut [u8],
 ) -> usize
-    requires { BetweenAsked c conflicts.now tails.now heads.now p letters.old }
-    ensures { BetweenDone c conflicts.now tails.now heads.now p letters.old letters.new result }
+    requires { BetweenAsked c.now conflicts.now costs.now.tails costs.now.heads p letters.old }
+    ensures { BetweenDone c.now conflicts.now costs.now.tails costs.now.heads p letters.old letters.new result }
 {
-    let inputs = c.inputs;
     let mark = p.back_loop + p.lead_in;
     let from = Coder::STATES * p.s + p.t;
     let loop_cost = LETTER_COST * p.forward_loop;
     let rest = OUT_COST * p.lead_out + loop_cost;
-    let u = write(
-        &c.next,
-        &c.output,
-        inputs,
-        heads,
-        IN_COST,
-        LETTER_COST + rest,
-        from,
-        p.lead_in,
-        p.back_loop,
-        letters,
-    );
-    let next = write_mark(c, conflicts, tails, u, rest, mark, letters);
-    write(
-        &c.next,
-        &c.output,
-        inputs,
-        tails,
-        OUT_COST,
-        loop_cost,
-        next,
-        p.lead_out,
-        mark + 1,
-        letters,
-    )
+    let heads = WalkCosts {
+        table: &costs.heads,
+        step: IN_COST,
+        base: LETTER_COST + rest,
+    };
+    let tails = WalkCosts {
+        table: &costs.tails,
+        step: OUT_COST,
+        base: loop_cost,
+    };
+    let u = write(c, &heads, from, p.lead_in, p.back_loop, letters);
+    let next = write_mark(c, conflicts, &costs.tails, u, rest, mark, letters);
+    write(c, &tails, next, p.lead_out, mark + 1, letters)
 }

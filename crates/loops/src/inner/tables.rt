@@ -4,7 +4,7 @@ ghost use Rattle.first_pair.specs.Successors.{SuccessorsOf};
 ghost use Rattle.loops.specs.Parts.{CostTablesOf, LengthsAsked, LengthsDone};
 
 use crate::inner::{IN_COST, OUT_COST};
-use chains::inner::parts;
+use chains::inner::{place_letters, place_states};
 use coder::inner::tables::Coder;
 use costs::inner::lowering::lower_costs;
 use costs::inner::marked::marked;
@@ -22,20 +22,18 @@ pub struct CostTables {
 }
 
 #[inline(never)]
-pub fn tables<'a>(c: Coder, words: &'a [u16; 4096], conflicts: &'a [u16; 16]) -> CostTables
-    requires { Sound c × SuccessorsOf (machine_of_coder c) words.now }
-    ensures { CostTablesOf c conflicts.now result.loops result.tails result.heads }
+pub fn tables(c: &Coder, words: &[u16; 4096], conflicts: &[u16; 16]) -> CostTables
+    requires { Sound c.now × SuccessorsOf (machine_of_coder c.now) words.now }
+    ensures { CostTablesOf c.now conflicts.now result.loops result.tails result.heads }
 {
-    let states = c.states;
-    let inputs = c.inputs;
-    let loops = cycles::inner::closed::loops(words, states);
+    let loops = cycles::inner::closed::loops(words, c.states);
     let mut tails = loops;
-    lower_costs(words, states, OUT_COST, &mut tails);
-    let own = parts(false);
-    let letters = parts(true);
-    let rows = by_output(&own, &letters, &c.output, states, inputs);
+    lower_costs(words, c.states, OUT_COST, &mut tails);
+    let own = place_states();
+    let letters = place_letters();
+    let rows = by_output(&own, &letters, &c.output, c.states, c.inputs);
     let mut heads = marked(c, &rows, conflicts, &tails);
-    lower_costs(words, states, IN_COST, &mut heads);
+    lower_costs(words, c.states, IN_COST, &mut heads);
     CostTables {
         loops,
         tails,
@@ -44,23 +42,18 @@ pub fn tables<'a>(c: Coder, words: &'a [u16; 4096], conflicts: &'a [u16; 16]) ->
 }
 
 // Starts and lengths of the first pair.
-pub fn lengths<'a>(
-    states: usize,
-    starts: u16,
-    loops: &'a [usize; 256],
-    heads: &'a [usize; 256],
-) -> LoopedPair
-    requires { LengthsAsked states starts loops.now heads.now }
-    ensures { LengthsDone states starts loops.now heads.now result }
+pub fn lengths(states: usize, starts: u16, costs: &CostTables) -> LoopedPair
+    requires { LengthsAsked states starts costs.now.loops costs.now.heads }
+    ensures { LengthsDone states starts costs.now.loops costs.now.heads result }
 {
-    let a = first_start(states, starts, loops, heads);
-    let head = heads[a];
+    let a = first_start(states, starts, &costs.loops, &costs.heads);
+    let head = costs.heads[a];
     let lead_in = head % LETTER_COST / TOO_LONG;
     let lead_out = head % TOO_LONG;
     LoopedPair {
         s: a / Coder::STATES,
         t: a % Coder::STATES,
-        back_loop: loops[a] / LETTER_COST,
+        back_loop: costs.loops[a] / LETTER_COST,
         lead_in,
         lead_out,
         forward_loop: head / LETTER_COST - 1 - lead_in - lead_out,

@@ -6,6 +6,6 @@ use Rattle.report.proofs.main.Goals as goal
 
 pub slice_bounds-write_all-end : goal.slice_bounds-write_all-end
 slice_bounds-write_all-end c =
-    let h = c.report-t.ensures.padded in
-    let r = c.report-t.result in
+    let h = c.report-text.ensures.padded in
+    let r = c.report-text.result in
     sym (length-take-le r.len r.bytes (omega (arith, h.space, h.fits)))

@@ -1,19 +1,13 @@
 -- `search` meets its promise: the library's own search, laid out.
+use mathlib.Core.Path.{refl}
 use borrow.Author.Tests.{leb-true}
 use Rattle.coder.proofs.Refusals.{via}
-use Rattle.values.specs.Order.{default_order}
+use Rattle.layout.proofs.Hosting.{refusal_handed}
 use Rattle.search_host.proofs.Hosting.{search_others}
 use Rattle.search_host.proofs.search.Goals as goal
 
-pub put-requires : goal.put-requires
-put-requires c =
-    let a = c.args in
-    let left = c.search-own.new.letters in
-    λ z.
-    leb-true _ _
-    (via c.roomy.ensures
-    (search_others default_order a.file.now a.settle a.letters.now left _ c.search-own.result c.search-own.ensures z))
+pub put_verdict-requires : goal.put_verdict-requires
+put_verdict-requires c = leb-true _ _ (via c.roomy.ensures (search_others _ _ _ _ _ _ _ c.in-Ok.ensures refl))
 
-pub returns : goal.returns
-returns c =
-    record { own = c.search-own.result; promised = rw c.roomy.ensures at c.search-own.ensures; out = c.put.ensures }
+pub returns-in-Err : goal.returns-in-Err
+returns-in-Err c = refusal_handed _ _ c.number.ensures (rw c.roomy.ensures at c.in-Err.ensures)

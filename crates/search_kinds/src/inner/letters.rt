@@ -16,12 +16,9 @@ pub fn letters_of(kinds: &[u8], k: usize) -> u16
     ensures { Holds (OfKind (kind_of kinds.now) k) result }
 {
     let mut set = 0u16;
-    let mut j = 0;
-    while j < Coder::INPUTS {
-        let letter = j;
-        j += 1;
-        if kind_of(kinds, letter) == k {
-            set = set | 1u16 << letter;
+    for j in 0..Coder::INPUTS {
+        if kind_of(kinds, j) == k {
+            set |= 1u16 << j;
         }
     }
     set
@@ -47,7 +44,7 @@ fn other_kinds(kinds: &[u8], i: usize) -> u16
 }
 
 // The letters that are to be told apart from i: other letters of its kind, where that kind is in the set, and, if asked for, letters of
-// other kinds.
+// other kinds. `across` is data of that relation, as the set is.
 fn apart(kinds: &[u8], across: bool, carried: u16, i: usize) -> u16
     requires { KindsLow kinds.now × (i < max_inputs) }
     ensures { Holds (λ j. (j < max_inputs) × ToldApart across (kind_of kinds.now) (Has carried) i j) result }
@@ -65,10 +62,8 @@ pub fn apart_words(kinds: &[u8], across: bool, carried: u16) -> [u16; 16]
     ensures { ConflictsOf (ToldApart across (kind_of kinds.now) (Has carried)) result }
 {
     let mut words = [0u16; 16];
-    let mut i = 0;
-    while i < Coder::INPUTS {
-        words[i] = apart(kinds, across, carried, i);
-        i += 1;
+    for (i, word) in words.iter_mut().enumerate() {
+        *word = apart(kinds, across, carried, i);
     }
     words
 }

@@ -1,109 +1,63 @@
 // The carried kinds and the first window for them, from the depths of the product machine, which are the same whatever letters are to be
 // told apart: a kind by itself, and then all carried kinds with the letters of different kinds.
+ghost use Rattle.std.specs.Prelude.{◌<◌};
 ghost use Rattle.mealy.specs.Word.{Has};
+ghost use Rattle.coder.specs.Limits.{max_inputs};
 ghost use Rattle.kinds.specs.Kinds.{DifferentWithin};
-ghost use Rattle.kind_list.specs.KindList.{kind_of};
+ghost use Rattle.kind_list.specs.KindList.{kind_of, KindsLow};
 ghost use Rattle.search_kinds.specs.Letters.{ToldApart};
-ghost use Rattle.search_kinds.specs.Tries.{KindsAsked, KindAsked, LeastTold, SomeTold, CarriedGiven};
+ghost use Rattle.search_kinds.specs.Tries.{LeastTold, SomeTold, CarriedGiven};
 
 use crate::inner::letters::{apart_words, letters_of};
-use coder::inner::tables::Coder;
 use fitting::Answer;
 use fitting::inner::answer::{UNCOUNTED, answer_of};
-use least::LeastWindow;
-use least::inner::least_for;
-use values::Order;
+use least::inner::Depths;
+use values::{Order, Window};
 
 // The first window, in the default order and with settle count 0, that tells letters of the kinds of a set apart and, if asked for, letters
 // of different kinds; or none.
 pub fn least_window<'a>(
-    c: Coder,
-    last: &'a [u16; 64],
-    previous: &'a [u16; 256],
-    backs: &'a [[u8; 16]; 16],
-    forwards: &'a [[u8; 16]; 16],
+    depths: &'a Depths<'a>,
     kinds: &'a [u8],
     across: bool,
     carried: u16,
-) -> LeastWindow
-    requires { KindsAsked c last.now previous.now backs.now forwards.now kinds.now }
-    ensures { LeastTold c backs.now forwards.now
+) -> Option<Window>
+    requires { KindsLow kinds.now }
+    ensures { LeastTold depths.now.coder.now depths.now.back depths.now.forward
         (ToldApart across (kind_of kinds.now) (Has carried)) result }
 {
-    let conflicts = apart_words(kinds, across, carried);
-    least_for(
-        c,
-        last,
-        previous,
-        backs,
-        forwards,
-        &conflicts,
-        Order::DEFAULT,
-        0,
-    )
+    depths.least_for(&apart_words(kinds, across, carried), Order::DEFAULT, 0)
 }
 
 // Whether there is a window for the letters of the kind k alone.
-fn some_window<'a>(
-    c: Coder,
-    last: &'a [u16; 64],
-    previous: &'a [u16; 256],
-    backs: &'a [[u8; 16]; 16],
-    forwards: &'a [[u8; 16]; 16],
-    kinds: &'a [u8],
-    k: usize,
-) -> bool
-    requires { KindAsked c last.now previous.now backs.now forwards.now kinds.now k }
-    ensures { SomeTold c backs.now forwards.now (DifferentWithin (kind_of kinds.now) k) result }
+fn some_window<'a>(depths: &'a Depths<'a>, kinds: &'a [u8], k: usize) -> bool
+    requires { KindsLow kinds.now × (k < max_inputs) }
+    ensures { SomeTold depths.now.coder.now depths.now.back depths.now.forward (DifferentWithin (kind_of kinds.now) k) result }
 {
-    let least = least_window(c, last, previous, backs, forwards, kinds, false, 1u16 << k);
-    match least {
-        LeastWindow::None => false,
-        LeastWindow::Some(_) => true,
-    }
+    least_window(depths, kinds, false, 1u16 << k).is_some()
 }
 
 // Whether the kind k is carried; where it has no two letters, no window is looked for.
-fn carries<'a>(
-    c: Coder,
-    last: &'a [u16; 64],
-    previous: &'a [u16; 256],
-    backs: &'a [[u8; 16]; 16],
-    forwards: &'a [[u8; 16]; 16],
-    kinds: &'a [u8],
-    k: usize,
-) -> bool
-    requires { KindAsked c last.now previous.now backs.now forwards.now kinds.now k }
-    ensures { SomeTold c backs.now forwards.now (DifferentWithin (kind_of kinds.now) k) result }
+fn carries<'a>(depths: &'a Depths<'a>, kinds: &'a [u8], k: usize) -> bool
+    requires { KindsLow kinds.now × (k < max_inputs) }
+    ensures { SomeTold depths.now.coder.now depths.now.back depths.now.forward (DifferentWithin (kind_of kinds.now) k) result }
 {
-    let letters = answer_of(letters_of(kinds, k), UNCOUNTED);
-    match letters {
-        Answer::Several => some_window(c, last, previous, backs, forwards, kinds, k),
+    match answer_of(letters_of(kinds, k), UNCOUNTED) {
+        Answer::Several => some_window(depths, kinds, k),
         Answer::None(_) => true,
         Answer::Letter(_) => true,
     }
 }
 
 // The kinds that are carried.
-pub fn carried_kinds<'a>(
-    c: Coder,
-    last: &'a [u16; 64],
-    previous: &'a [u16; 256],
-    backs: &'a [[u8; 16]; 16],
-    forwards: &'a [[u8; 16]; 16],
-    kinds: &'a [u8],
-) -> u16
-    requires { KindsAsked c last.now previous.now backs.now forwards.now kinds.now }
-    ensures { CarriedGiven c backs.now forwards.now (kind_of kinds.now) result }
+pub fn carried_kinds<'a>(depths: &'a Depths<'a>, kinds: &'a [u8]) -> u16
+    requires { KindsLow kinds.now }
+    ensures { CarriedGiven depths.now.coder.now depths.now.back depths.now.forward (kind_of kinds.now) result }
 {
-    let inputs = c.inputs;
     let mut carried = 0u16;
-    let mut k = 0;
-    while k < inputs {
-        let kind = k;
-        k += 1;
-        if carries(c, last, previous, backs, forwards, kinds, kind) {
-            carried = carried | 1u16 << kind;
+    for k in 0..depths.coder.inputs {
+        if carries(depths, kinds, k) {
+            carried |= 1u16 << k;
         }
     }
     carried

@@ -16,21 +16,15 @@ fn of_kind(kinds: &[u8], set: u16, k: usize, x: usize) -> bool
     requires { x < max_inputs }
     ensures { result ≡ of_kind (kind_of kinds.now) set k x }
 {
-    if has(set, x) {
-        return kind_of(kinds, x) == k;
-    }
-    true
+    !has(set, x) || kind_of(kinds, x) == k
 }
 
 // Whether every letter of a set has the kind k.
 fn share(kinds: &[u8], set: u16, k: usize) -> bool
     ensures { result ≡ shared (kind_of kinds.now) set k }
 {
-    let mut x = 0;
-    while x < Coder::INPUTS {
-        if of_kind(kinds, set, k, x) {
-            x += 1;
-        } else {
+    for x in 0..Coder::INPUTS {
+        if !of_kind(kinds, set, k, x) {
             return false;
         }
     }

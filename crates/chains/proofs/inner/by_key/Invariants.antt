@@ -1,10 +1,6 @@
 -- `by_key` meets its contract. The entries below place p are chained.
-use Prim.Native.Nat.{◌≤◌, ◌-◌}
 use Rattle.chains.proofs.Building.{ChainedBelow}
 use Rattle.chains.proofs.inner.by_key.Given as goal
 
 abbrev pub invariant-loop-p : goal.invariant-loop-p
-invariant-loop-p l = (l.p ≤ l.end) × ChainedBelow l.keys l.states l.inputs l.p l.last l.previous
-
-abbrev pub decreases-loop-p : goal.decreases-loop-p
-decreases-loop-p l = l.end - l.p
+invariant-loop-p l = ChainedBelow l.keys l.states l.inputs l.p l.last l.previous

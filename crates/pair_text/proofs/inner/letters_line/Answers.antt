@@ -1,59 +1,45 @@
-use Prim.Native.Nat.{◌+◌, ◌*◌, ◌<◌}
-use lib.ListN.{length, take}
+use mathlib.Core.Path.{◌∙◌}
+use Prim.Native.Nat.{◌*◌, ◌<◌}
+use lib.ListN.{take}
 use Rattle.placing.proofs.Placing.{written_then}
-use Rattle.pair_text.proofs.Spaced.{spaced_none, spaced_more, spaced_all, two_length, room_more}
+use Rattle.pair_text.proofs.Spaced.{spaced_none, spaced_more, spaced_all, pairs_count, pair_letters, two_length, room_more}
 use Rattle.pair_text.proofs.Lengths.{letters_length}
-use borrow.Author.Rules.{rules}
 use native.Mathlib.Omega.{arith}
 use Rattle.pair_text.proofs.inner.letters_line.Goals as goal
 
-pub put-next-requires : goal.put-next-requires
-put-next-requires c =
-    omega (arith, letters_length (take (2 * c.args.n) c.args.letters.now), c.requires.1)
-
-pub loop-i-init : goal.loop-i-init
-loop-i-init c = (search rules, search rules, spaced_none _ _)
-
-pub overflow_cast-x : goal.overflow_cast-x
-overflow_cast-x c = omega (arith, c.type_inv.letters (2 * c.loop-i.i))
-
-pub overflow_cast-y : goal.overflow_cast-y
-overflow_cast-y c = omega (arith, c.type_inv.letters (2 * c.loop-i.i + 1))
+pub loop-pair-init : goal.loop-pair-init
+loop-pair-init c = spaced_none _ _
 
 pub two-next-requires : goal.two-next-requires
 two-next-requires c =
     let letters = c.args.letters.now in
-    simp two_length (omega (
+    let i = c.loop-pair.pair-index in
+    let e = pairs_count letters c.args.n c.requires.0 c.as_chunks.ensures.front_len in
+    let l : i < c.args.n = omega (arith, e) in
+    let p = pair_letters letters c.args.n i c.as_chunks.ensures.front (omega arith) l in
+    rw (c.from-x.ensures ∙ p.0, c.from-y.ensures ∙ p.1)
+    (simp two_length (omega (
       arith,
-      room_more letters c.loop-i.i c.args.n c.loop-i-test.true c.requires.0,
+      room_more letters i c.args.n l c.requires.0,
       letters_length (take (2 * c.args.n) letters),
       c.requires.1,
-      c.put-next.auto.out,
       c.put-next.ensures.end,
-      c.loop-i.invariant.1,
-      c.loop-i.invariant.2.end,
-    ))
+      c.loop-pair.invariant.end,
+    )))
 
-pub loop-i-preserved : goal.loop-i-preserved
-loop-i-preserved c =
-    let i = c.loop-i.i in
-    let m : 2 * i + 1 < length c.args.letters.now = omega (arith, c.requires.0, c.loop-i-test.true) in
-    (search rules, search rules, spaced_more c.args.letters.now i m c.loop-i.invariant.2 c.two-next.ensures)
-
-pub put-requires : goal.put-requires
-put-requires c =
-    let all = spaced_all c.args.letters.now _ _ c.loop-i.invariant.0 c.loop-i-test.false c.loop-i.invariant.2 in
-    omega (
-      arith,
-      letters_length (take (2 * c.args.n) c.args.letters.now),
-      c.requires.1,
-      c.put-next.auto.out,
-      c.put-next.ensures.end,
-      c.loop-i.invariant.1,
-      all.end,
-    )
+pub loop-pair-preserved : goal.loop-pair-preserved
+loop-pair-preserved c =
+    let letters = c.args.letters.now in
+    let i = c.loop-pair.pair-index in
+    let e = pairs_count letters c.args.n c.requires.0 c.as_chunks.ensures.front_len in
+    let l : i < c.args.n = omega (arith, e) in
+    let p = pair_letters letters c.args.n i c.as_chunks.ensures.front (omega arith) l in
+    let two = rw (c.from-x.ensures ∙ p.0, c.from-y.ensures ∙ p.1) at c.two-next.ensures in
+    spaced_more letters i (omega (arith, c.requires.0)) c.loop-pair.invariant two
 
 pub returns : goal.returns
 returns c =
-    let all = spaced_all c.args.letters.now _ _ c.loop-i.invariant.0 c.loop-i-test.false c.loop-i.invariant.2 in
+    let letters = c.args.letters.now in
+    let e = pairs_count letters c.args.n c.requires.0 c.as_chunks.ensures.front_len in
+    let all = spaced_all letters c.loop-pair.pair-index c.args.n (omega (arith, e)) (omega (arith, e)) c.loop-pair.invariant in
     written_then (written_then c.put-next.ensures all) c.put.ensures

@@ -9,53 +9,23 @@ use Rattle.pair_text.proofs.inner.pair_line.Goals as goal
 
 pub put-a-requires : goal.put-a-requires
 put-a-requires c =
-    omega (arith, pair_length (pair_of c.args.p []), c.requires)
+    grind (arith, two_length, pair_length (pair_of c.args.p []))
 
 pub two-b-requires : goal.two-b-requires
 two-b-requires c =
-    simp two_length (omega (arith, pair_length (pair_of c.args.p []), c.requires, c.put-a.auto.out, c.put-a.ensures.end))
+    grind (arith, two_length, pair_length (pair_of c.args.p []))
 
 pub two-c-requires : goal.two-c-requires
 two-c-requires c =
-    simp two_length (omega (
-      arith,
-      pair_length (pair_of c.args.p []),
-      c.requires,
-      c.put-a.auto.out,
-      c.put-a.ensures.end,
-      c.two-b.auto.out,
-      simp two_length at c.two-b.ensures.end,
-    ))
+    grind (arith, two_length, pair_length (pair_of c.args.p []))
 
 pub two-d-requires : goal.two-d-requires
 two-d-requires c =
-    simp two_length (omega (
-      arith,
-      pair_length (pair_of c.args.p []),
-      c.requires,
-      c.put-a.auto.out,
-      c.put-a.ensures.end,
-      c.two-b.auto.out,
-      simp two_length at c.two-b.ensures.end,
-      c.two-c.auto.out,
-      simp two_length at c.two-c.ensures.end,
-    ))
+    grind (arith, two_length, pair_length (pair_of c.args.p []))
 
 pub put-requires : goal.put-requires
 put-requires c =
-    omega (
-      arith,
-      pair_length (pair_of c.args.p []),
-      c.requires,
-      c.put-a.auto.out,
-      c.put-a.ensures.end,
-      c.two-b.auto.out,
-      simp two_length at c.two-b.ensures.end,
-      c.two-c.auto.out,
-      simp two_length at c.two-c.ensures.end,
-      c.two-d.auto.out,
-      simp two_length at c.two-d.ensures.end,
-    )
+    grind (arith, two_length, pair_length (pair_of c.args.p []))
 
 pub returns : goal.returns
 returns c =

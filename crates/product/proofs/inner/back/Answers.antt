@@ -8,8 +8,8 @@ along-requires c = record {
   d = back;
   sound = c.requires;
   near_is = refl;
-  far_is = c.parts-states.ensures;
+  far_is = c.place_states.ensures;
 }
 
 pub returns : goal.returns
-returns c = c.along.ensures back refl c.parts-states.ensures
+returns c = c.along.ensures back refl c.place_states.ensures

@@ -1,11 +1,10 @@
--- `first_edges` meets its contract. The first a places are set.
-use mathlib.Core.Path.{◌≡◌}
-use Prim.Native.Nat.{◌≤◌, ◌-◌, ◌*◌}
+-- `first_edges` meets its contract. The edges of the pairs before that of u and v are set.
+use Prim.Native.Nat.{◌+◌, ◌*◌}
 use Rattle.product.proofs.Beginning.{FirstEdgesTo}
 use Rattle.product.proofs.inner.first_edges.Given as goal
 
-abbrev pub invariant-loop-a : goal.invariant-loop-a
-invariant-loop-a l = (l.a ≤ l.end) × (l.end ≡ 16 * l.states) × FirstEdgesTo l.last l.a l.xs l.ys
+abbrev pub invariant-loop-u : goal.invariant-loop-u
+invariant-loop-u l = FirstEdgesTo l.last (16 * l.u) l.edges
 
-abbrev pub decreases-loop-a : goal.decreases-loop-a
-decreases-loop-a l = l.end - l.a
+abbrev pub invariant-loop-v : goal.invariant-loop-v
+invariant-loop-v l = FirstEdgesTo l.last (16 * l.u + l.v) l.edges

@@ -7,9 +7,9 @@ pub along-requires : goal.along-requires
 along-requires c = record {
   d = forward;
   sound = c.requires;
-  near_is = c.parts-states.ensures;
+  near_is = c.place_states.ensures;
   far_is = refl;
 }
 
 pub returns : goal.returns
-returns c = c.along.ensures forward c.parts-states.ensures refl
+returns c = c.along.ensures forward c.place_states.ensures refl

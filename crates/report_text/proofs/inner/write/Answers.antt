@@ -5,23 +5,23 @@ use Rattle.report_text.proofs.inner.write.Goals as goal
 
 pub refused-requires : goal.refused-requires
 refused-requires c =
-    (refused_short _ c.counts-header.ensures c.in-Refused.is, omega (arith, c.requires))
+    (omega (arith, c.number.ensures, refused_short _ c.counts.ensures c.in-Err.is), omega (arith, c.requires))
 
 pub coder_line-at-requires : goal.coder_line-at-requires
 coder_line-at-requires c =
-    let l = counts_short _ c.counts-header.ensures c.in-Counts.is in
+    let l = counts_short _ c.counts.ensures c.in-Ok.is in
     (omega (arith, l), omega (arith, l), omega (arith, l), omega (arith, c.requires))
 
 pub verdict_lines-requires : goal.verdict_lines-requires
 verdict_lines-requires c = (
-  (header_counts _ c.counts-header.ensures c.in-Counts.is).none,
+  (header_counts _ c.counts.ensures c.in-Ok.is).none,
   omega (arith, c.coder_line-at.auto.out, c.coder_line-at.ensures.upper_bound, c.requires),
 )
 
-pub returns-in-Refused : goal.returns-in-Refused
-returns-in-Refused c =
-    report_refused _ c.counts-header.ensures c.in-Refused.is c.refused.ensures
+pub returns-in-Err : goal.returns-in-Err
+returns-in-Err c =
+    report_refused _ c.counts.ensures c.in-Err.is (rw c.number.ensures at c.refused.ensures)
 
-pub returns-in-Counts : goal.returns-in-Counts
-returns-in-Counts c =
-    report_accepted _ c.counts-header.ensures c.in-Counts.is c.coder_line-at.ensures.placed c.coder_line-at.ensures.upper_bound c.verdict_lines.ensures
+pub returns-in-Ok : goal.returns-in-Ok
+returns-in-Ok c =
+    report_accepted _ c.counts.ensures c.in-Ok.is c.coder_line-at.ensures.placed c.coder_line-at.ensures.upper_bound c.verdict_lines.ensures

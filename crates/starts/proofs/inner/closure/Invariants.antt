@@ -1,11 +1,7 @@
--- `closure` meets its contract: after k - 1 steps the set has the states within as many of state 0; these are all where a step adds none,
--- and at the end.
-use Prim.Native.Nat.{◌-◌, ◌≤◌}
+-- `closure` meets its contract: with the counter at k the set has the states within k - 1 steps of state 0; these are all where a step adds
+-- none, and at the end.
 use Rattle.starts.proofs.Closure.{SoFar}
 use Rattle.starts.proofs.inner.closure.Given as goal
 
-abbrev pub invariant-loop-k : goal.invariant-loop-k
-invariant-loop-k l = (1 ≤ l.k) × SoFar l.words l.states l.k l.set
-
-abbrev pub decreases-loop-k : goal.decreases-loop-k
-decreases-loop-k l = l.states - l.k
+abbrev pub invariant-loop : goal.invariant-loop
+invariant-loop l = SoFar l.words l.states l.counter l.set

@@ -12,6 +12,6 @@ after-requires c = c.steps-words.ensures.each
 pub returns : goal.returns
 returns c =
     let sound = c.requires in
-    let M = machine_of_coder c.args.c in
+    let M = machine_of_coder c.args.c.now in
     c.after.ensures M sound.states_low (λ s i l m. sound.next_state s i) c.steps-words.ensures
     (c.closure-reachable.ensures M refl sound.states_low (λ s i l m. sound.next_state s i) c.steps-words.ensures)

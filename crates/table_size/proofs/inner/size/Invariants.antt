@@ -1,10 +1,7 @@
--- `size` meets its contract: before each turn the size is that of i letters.
+-- `size` meets its contract: before each turn the size is that of as many letters as are counted.
 use mathlib.Core.Path.{◌≡◌}
-use Prim.Native.Nat.{◌≤◌, ◌-◌, ◌^◌}
+use Prim.Native.Nat.{◌^◌}
 use Rattle.table_size.proofs.inner.size.Given as goal
 
-abbrev pub invariant-loop-i : goal.invariant-loop-i
-invariant-loop-i l = (l.i ≤ l.n) × (l.size ≡ l.outputs ^ l.i)
-
-abbrev pub decreases-loop-i : goal.decreases-loop-i
-decreases-loop-i l = l.n - l.i
+abbrev pub invariant-loop : goal.invariant-loop
+invariant-loop l = l.size ≡ l.outputs ^ l.counter

@@ -1,24 +1,10 @@
-use mathlib.Core.Path.{◌≡◌, refl, sym, ◌∙◌}
-use native.Mathlib.Omega.{arith}
-use lib.Seq.{drop-length}
-use lib.ListN.{length}
-use borrow.Author.Rules.{rules}
-use Rattle.coder.proofs.Refusals.{letters_more, letters_not}
+-- `letters_below` meets its contract.
+use Rattle.std.proofs.Common.{rules, ◌↔◌, ◌<◌, IsTrue, EachIndex, slice_index}
+use Rattle.coder.proofs.Refusals.{letters_each}
 use Rattle.coder.proofs.inner.bytes.letters_below.Goals as goal
-
-pub loop-k-init : goal.loop-k-init
-loop-k-init c = (search rules, refl)
-
-pub loop-k-preserved : goal.loop-k-preserved
-loop-k-preserved c = (
-  search rules,
-  letters_more _ _ _ c.loop-k-test.true (omega arith) c.loop-k.invariant.1,
-)
-
-pub returns-else-byte-n : goal.returns-else-byte-n
-returns-else-byte-n c = sym (letters_not _ _ _ c.loop-k-test.true (omega arith) c.loop-k.invariant.1)
 
 pub returns : goal.returns
 returns c =
-    let e : c.loop-k.k ≡ length c.args.letters.now = omega arith in
-    sym (c.loop-k.invariant.1 ∙ rw (e, drop-length))
+    let xs = c.args.letters.now in
+    let h : IsTrue c.all.result ↔ EachIndex xs (λ k. slice_index xs k < c.args.n) = search rules in
+    letters_each _ _ h

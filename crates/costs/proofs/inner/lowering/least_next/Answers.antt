@@ -5,10 +5,10 @@ use Rattle.costs.proofs.Lowering.{next_cost}
 use Rattle.costs.proofs.inner.lowering.least_next.Goals as goal
 
 pub loop-x-init : goal.loop-x-init
-loop-x-init c = (omega arith, below_none)
+loop-x-init c = below_none
 
 pub loop-x-preserved : goal.loop-x-preserved
-loop-x-preserved c = (omega arith, below_one c.loop-x.invariant.1 c.least_in_row-least.ensures)
+loop-x-preserved c = below_one c.loop-x.invariant c.least_in_row-least.ensures
 
 pub returns : goal.returns
-returns c = let e : c.loop-x.x ≡ c.args.states = omega arith in next_cost (rw e at c.loop-x.invariant.1)
+returns c = let e : c.loop-x.x ≡ c.args.states = omega arith in next_cost (rw e at c.loop-x.invariant)

@@ -4,6 +4,3 @@ use Rattle.costs.proofs.inner.lowering.pass.Given as goal
 
 abbrev pub invariant-loop-a : goal.invariant-loop-a
 invariant-loop-a l = Passing l.words l.states l.step l.low l.initial.t l.t l.fell l.a
-
-abbrev pub decreases-loop-a : goal.decreases-loop-a
-decreases-loop-a l = l.a

@@ -5,10 +5,10 @@ use Rattle.costs.proofs.ConflictCosts.{costs_none, costs_more, edges_asked, mark
 use Rattle.costs.proofs.inner.marked.marked.Goals as goal
 
 pub loop-a-init : goal.loop-a-init
-loop-a-init c = (omega arith, costs_none refl, table_endless)
+loop-a-init c = (costs_none refl, table_endless)
 
-pub least_conflict-cost-requires : goal.least_conflict-cost-requires
-least_conflict-cost-requires c =
+pub least_conflict-requires : goal.least_conflict-requires
+least_conflict-requires c =
     let p = c.requires in
     let h = p.sound.states_high in
     (edges_asked p, omega arith, omega arith)
@@ -16,11 +16,10 @@ least_conflict-cost-requires c =
 pub loop-a-preserved : goal.loop-a-preserved
 loop-a-preserved c =
     let h = c.requires.sound.states_high in (
-      omega arith,
-      costs_more c.loop-a.invariant.1 (omega arith)
-          (record { r = c.least_conflict-cost.result; capped = c.least_conflict-cost.ensures; is = refl }),
-      table_set c.loop-a.invariant.2 (omega arith) (let m = c.least_conflict-cost.ensures.high in omega arith),
+      costs_more c.loop-a.invariant.0 (omega arith)
+          (record { r = c.least_conflict.result; capped = c.least_conflict.ensures; is = refl }),
+      table_set c.loop-a.invariant.1 (omega arith) (let m = c.least_conflict.ensures.high in omega arith),
     )
 
 pub returns : goal.returns
-returns c = (c.loop-a.invariant.2, marked_done c.requires c.loop-a.invariant.1 c.loop-a-test.false)
+returns c = (c.loop-a.invariant.1, marked_done c.requires c.loop-a.invariant.0 c.loop-a-test.false)

@@ -1,10 +1,6 @@
--- `cycle` meets its contract: the sets after k letters.
-use Prim.Native.Nat.{◌-◌}
-use Rattle.cycles.proofs.Breadth.{Searched}
+-- `cycle` meets its contract: the pairs that k letters lead to, and those met before.
+use Rattle.cycles.proofs.Breadth.{Ahead}
 use Rattle.cycles.proofs.inner.closed.cycle.Given as goal
 
-abbrev pub invariant-loop-some : goal.invariant-loop-some
-invariant-loop-some l = Searched l.words l.states l.u l.v l.k l.set l.seen l.some
-
-abbrev pub decreases-loop-some : goal.decreases-loop-some
-decreases-loop-some l = 1024 - l.k
+abbrev pub invariant-loop-k : goal.invariant-loop-k
+invariant-loop-k l = Ahead l.words l.states l.u l.v l.k l.set l.seen

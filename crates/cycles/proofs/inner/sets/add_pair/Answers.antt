@@ -6,10 +6,10 @@ use native.Mathlib.Omega.{arith}
 use Rattle.cycles.proofs.inner.sets.add_pair.Goals as goal
 
 pub loop-x-init : goal.loop-x-init
-loop-x-init c = (omega arith, filled_none c.requires.2.size)
+loop-x-init c = filled_none c.requires.2.size
 
 pub loop-x-preserved : goal.loop-x-preserved
-loop-x-preserved c = let i = c.loop-x in let l : i.x < 16 = omega arith in (omega arith, filled_more i.invariant.1 l (rw (i.invariant.1.left i.x (omega arith)) refl))
+loop-x-preserved c = let i = c.loop-x in let l : i.x < 16 = omega arith in filled_more i.invariant l (rw (i.invariant.left i.x (omega arith)) refl)
 
 pub returns : goal.returns
-returns c = let i = c.loop-x in besides_all i.invariant.1 (omega arith) c.requires.2 (λ x. c.requires.0.bound _)
+returns c = let i = c.loop-x in besides_all i.invariant (omega arith) c.requires.2 (λ x. c.requires.0.bound _)

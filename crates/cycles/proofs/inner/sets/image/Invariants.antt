@@ -1,12 +1,8 @@
 -- `image` meets its contract: the set has what follows the pairs with a first state below u.
-use Prim.Native.Nat.{◌≤◌, ◌-◌}
 use lib.ListN.{get_or}
 use Rattle.cycles.proofs.PairSets.{SomeBelow}
 use Rattle.cycles.specs.Successors.{FollowsRow, ExactlyPairs}
 use Rattle.cycles.proofs.inner.sets.image.Given as goal
 
 abbrev pub invariant-loop-u : goal.invariant-loop-u
-invariant-loop-u l = (l.u ≤ l.states) × ExactlyPairs (SomeBelow (λ v. FollowsRow l.words v (get_or l.set v 0)) l.u) l.to
-
-abbrev pub decreases-loop-u : goal.decreases-loop-u
-decreases-loop-u l = l.states - l.u
+invariant-loop-u l = ExactlyPairs (SomeBelow (λ v. FollowsRow l.words v (get_or l.set v 0)) l.u) l.to

@@ -1,24 +1,26 @@
-use mathlib.Core.Path.{◌≡◌, refl, sym, ◌∙◌}
+use mathlib.Core.Path.{◌≡◌, refl}
 use Prim.Native.Nat.{ℕ, ◌<◌}
+use lib.ListN.{length, get_or}
+use mathlib.Core.Bool.{false}
+use borrow.Author.Rules.{rules}
+use lib.Seq.{get_or-set_same}
 use Rattle.cycles.proofs.PairSets.{parted_none, parted_more, parted_all}
 use native.Mathlib.Omega.{arith}
 use Rattle.cycles.proofs.inner.sets.part.Goals as goal
-use Rattle.cycles.proofs.inner.sets.part.Goals.{then-fresh-ne0, else-fresh-ne0}
 
 pub loop-x-init : goal.loop-x-init
-loop-x-init c = (omega arith, parted_none c.requires.0.size c.requires.1.size)
-
-pub overflow_sub-fresh : goal.overflow_sub-fresh
-overflow_sub-fresh c = let i = c.loop-x in omega (arith, i.invariant.1.more.left i.x (omega arith), c.requires.1.bound i.x)
+loop-x-init c = parted_none c.requires.0.size c.requires.1.size
 
 pub loop-x-preserved : goal.loop-x-preserved
 loop-x-preserved c =
     let i = c.loop-x in
-    let l : i.x < 16 = omega arith in (
-      omega arith,
-      parted_more i.invariant.1 l refl refl
-          (λ z. elim c.if-fresh-ne0.branch [ then-fresh-ne0 w ↦ let e : ◌≡◌ {A = ℕ} 0 1 = cc in absurd (omega arith) | else-fresh-ne0 w ↦ (sym w.some-is ∙ z, w.if-fresh-ne0.false) ]),
-    )
+    let l : i.x < 16 = omega arith in
+    let m : i.x < length i.to = omega (arith, i.invariant.fresh.size) in
+    parted_more i.invariant l refl (rw get_or-set_same refl)
 
 pub returns : goal.returns
-returns c = let p = c.requires in let i = c.loop-x in parted_all p.0 p.1 i.invariant.1 (omega arith)
+returns c =
+    let p = c.requires in
+    let i = c.loop-x in
+    let z : c.any.result ≡ false → (x : ℕ) → x < length i.to → get_or i.to x 0 ≡ 0 = search rules in
+    parted_all p.0 p.1 i.invariant (omega arith) (λ q x l. z q x (omega (arith, i.invariant.fresh.size)))

@@ -2,18 +2,15 @@ use lib.ListN.{take, drop, length-drop, length}
 use lib.Seq.{length-take-le}
 use mathlib.Core.List.{List}
 use Prim.Native.Nat.{ℕ, ◌+◌, ◌≤◌, ◌<◌, ◌-◌}
-use mathlib.Core.Path.{◌≡◌, refl}
+use mathlib.Core.Path.{◌≡◌}
 use borrow.Author.Rules.{rules}
 use native.Mathlib.Omega.{arith}
 use Rattle.setting.specs.Words.{from_word}
 use Rattle.fitting.proofs.Answers.{letters_byte}
 use Rattle.fitting.proofs.Meaning.{tables_asked, fits_in, some_far}
-use Rattle.decoder.proofs.Writing.{written_none, written_more}
+use Rattle.decoder.proofs.Writing.{written_more}
 use Rattle.mealy.proofs.RunParts.{letters_take, letters_drop}
 use Rattle.decoder.proofs.inner.places.decode_places.Goals as goal
-
-pub loop-k-init : goal.loop-k-init
-loop-k-init c = (search rules, refl, λ d a. written_none _ _)
 
 -- a part of m letters that lies in w has its present letter
 part_long : {b : ℕ} (m : ℕ) (w : List ℕ) (k : ℕ) → k + m ≤ length w → b < m → b < length (take m (drop k w))
@@ -44,13 +41,12 @@ loop-k-preserved c =
     let below = letters_take 64 (i.k + p.n - i.k) from (letters_drop 64 i.k p.received.now c.requires.below) in
     let inside : p.b < length part = rw n (part_long p.n p.received.now i.k (omega arith) h) in (
       search rules,
-      search rules,
-      λ e a. written_more (i.invariant.2 e a) (omega (arith, c.requires, i.invariant, c.loop-k-test))
+      λ e a. written_more (i.invariant.1 e a) (omega (arith, c.requires, i.invariant, c.loop-k-test))
           (rw (c.answer_byte.ensures, c.answer_of.ensures)
           (rw n at
-          (letters_byte (from_word e p.starts) part p.b inside (some_far a.sound a.starts_are part) 0
+          (letters_byte (from_word e p.sets.now.starts) part p.b inside (some_far a.sound a.starts_are part) 0
           (fits_in a part p.b below c.fitting-fit.ensures)))),
     )
 
 pub returns : goal.returns
-returns c = λ d a. let q : c.loop-k.k ≡ c.args.m = omega arith in rw q at (c.loop-k.invariant.2 d a)
+returns c = λ d a. let q : c.loop-k.k ≡ c.args.m = omega arith in rw q at (c.loop-k.invariant.1 d a)

@@ -1,14 +1,7 @@
-use mathlib.Core.Path.{refl}
-use Rattle.coder.proofs.Fill.{filled_none, filled_more, filled_all}
+-- `start_sets` meets its contract: what the closure gives for s is the set of s.
 use borrow.Author.Rules.{rules}
-use native.Mathlib.Omega.{arith}
+use Rattle.chains.proofs.Places.{is_table}
 use Rattle.filling.proofs.inner.sets.start_sets.Goals as goal
 
-pub loop-s-init : goal.loop-s-init
-loop-s-init c = (search rules, filled_none refl)
-
-pub loop-s-preserved : goal.loop-s-preserved
-loop-s-preserved c = (search rules, filled_more c.loop-s.invariant.1 c.loop-s-test.true refl)
-
 pub returns : goal.returns
-returns c = filled_all c.loop-s.invariant.1 (λ j l m. absurd (omega arith))
+returns c = let f = c.from_fn.ensures.items in is_table f.long (λ j l. let e = (f.at j 0 l).2 in search rules)

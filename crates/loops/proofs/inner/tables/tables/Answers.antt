@@ -6,13 +6,13 @@ use Rattle.loops.proofs.inner.tables.tables.Goals as goal
 
 pub by_output-rows-requires : goal.by_output-rows-requires
 by_output-rows-requires c =
-    rw (c.parts-own.ensures, c.parts-letters.ensures) (entries_asked c.requires.0 _ _ (parts_high false) (parts_high true))
+    rw (c.place_states-own.ensures, c.place_letters-letters.ensures) (entries_asked c.requires.0 _ _ (parts_high false) (parts_high true))
 
 pub marked-heads-requires : goal.marked-heads-requires
 marked-heads-requires c =
     record {
       sound = c.requires.0;
-      letters_are = rw (c.parts-own.ensures, c.parts-letters.ensures) at c.by_output-rows.ensures;
+      letters_are = rw (c.place_states-own.ensures, c.place_letters-letters.ensures) at c.by_output-rows.ensures;
     }
 
 pub returns : goal.returns

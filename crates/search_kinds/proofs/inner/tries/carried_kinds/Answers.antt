@@ -1,33 +1,18 @@
 use mathlib.Core.Path.{◌≡◌}
 use native.Mathlib.Omega.{arith}
-use Rattle.search_kinds.proofs.Apart.{held_none, held_more, held_less}
+use Rattle.search_kinds.proofs.Apart.{held_more, held_less}
 use Rattle.search_kinds.proofs.inner.tries.carried_kinds.Goals as goal
-
-pub loop-k-init : goal.loop-k-init
-loop-k-init c = (omega arith, λ starts d. held_none)
-
-pub carries-requires : goal.carries-requires
-carries-requires c =
-    let p = c.requires in
-    let l = p.product.sound.inputs_high in
-    record { all = p; kind_low = omega arith }
-
-pub overflow_shl-carried : goal.overflow_shl-carried
-overflow_shl-carried c = let l = c.requires.product.sound.inputs_high in omega arith
-
-pub loop-k-preserved-then-carries : goal.loop-k-preserved-then-carries
-loop-k-preserved-then-carries c =
-    let l = c.requires.product.sound.inputs_high in (
-      omega arith,
-      λ starts d.
-          held_more c.loop-k.k (c.loop-k.invariant.1 starts d) (omega arith) ((c.carries.ensures starts d).yes' c.if-carries.true),
-    )
+use Rattle.search_kinds.proofs.inner.tries.carried_kinds.Goals.{then-carries, else-carries}
 
 pub loop-k-preserved : goal.loop-k-preserved
-loop-k-preserved c =
-    (omega arith, λ starts d. held_less c.loop-k.k (c.loop-k.invariant.1 starts d) ((c.carries.ensures starts d).no' c.if-carries.false))
+loop-k-preserved c = λ starts d.
+    let l = c.args.depths.now.sound.inputs_high in
+    elim c.if-carries.branch [
+      | then-carries w ↦ rw w.carried-is (held_more c.loop-k.k (c.loop-k.invariant starts d) (omega arith) ((c.carries.ensures starts d).yes' w.if-carries.true))
+      | else-carries w ↦ rw w.carried-is (held_less c.loop-k.k (c.loop-k.invariant starts d) ((c.carries.ensures starts d).no' w.if-carries.false))
+    ]
 
 pub returns : goal.returns
 returns c =
-    let e : c.loop-k.k ≡ c.args.c.inputs = omega arith in
-    λ starts d. rw e at (c.loop-k.invariant.1 starts d)
+    let e : c.loop-k.k ≡ c.args.depths.now.coder.now.inputs = omega arith in
+    λ starts d. rw e at (c.loop-k.invariant starts d)

@@ -1,5 +1,5 @@
 -- `carried_kinds` meets its contract. The word holds the carried kinds below k.
-use Prim.Native.Nat.{ℕ, ◌≤◌, ◌-◌}
+use Prim.Native.Nat.{ℕ}
 use Rattle.mealy.specs.Word.{Holds}
 use Rattle.least.specs.Report.{DepthsOf}
 use Rattle.kind_list.specs.KindList.{kind_of}
@@ -8,8 +8,5 @@ use Rattle.search_kinds.proofs.inner.tries.carried_kinds.Given as goal
 
 abbrev pub invariant-loop-k : goal.invariant-loop-k
 invariant-loop-k l =
-    (l.k ≤ l.inputs) ×
-    ((starts : ℕ) → DepthsOf l.c starts l.backs l.forwards → Holds (CarriedBelow (started l.c starts) (kind_of l.kinds) l.k) l.carried)
-
-abbrev pub decreases-loop-k : goal.decreases-loop-k
-decreases-loop-k l = l.inputs - l.k
+    (starts : ℕ) → DepthsOf l.depths.coder.now starts l.depths.back l.depths.forward →
+    Holds (CarriedBelow (started l.depths.coder.now starts) (kind_of l.kinds) l.k) l.carried

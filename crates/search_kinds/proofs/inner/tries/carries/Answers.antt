@@ -4,15 +4,12 @@ use Rattle.kind_list.specs.KindList.{kind_of}
 use Rattle.search_kinds.proofs.Tries.{no_letters, one_letter, single_told}
 use Rattle.search_kinds.proofs.inner.tries.carries.Goals as goal
 
-pub returns-in-Several : goal.returns-in-Several
-returns-in-Several c = c.some_window.ensures
-
 pub returns-in-None : goal.returns-in-None
 returns-in-None c =
-    single_told _ c.requires.all.product.sound (kind_of c.args.kinds.now) c.args.k
-    (no_letters c.letters_of.ensures _ (sym c.answer_of-letters.ensures ∙ c.in-None.is))
+    single_told _ c.args.depths.now.sound (kind_of c.args.kinds.now) c.args.k
+    (no_letters c.letters_of.ensures _ (sym c.answer_of.ensures ∙ c.in-None.is))
 
 pub returns-in-Letter : goal.returns-in-Letter
 returns-in-Letter c =
-    single_told _ c.requires.all.product.sound (kind_of c.args.kinds.now) c.args.k
-    (one_letter c.letters_of.ensures _ (sym c.answer_of-letters.ensures ∙ c.in-Letter.is))
+    single_told _ c.args.depths.now.sound (kind_of c.args.kinds.now) c.args.k
+    (one_letter c.letters_of.ensures _ (sym c.answer_of.ensures ∙ c.in-Letter.is))

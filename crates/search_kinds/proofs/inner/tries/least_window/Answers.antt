@@ -4,4 +4,4 @@ use Rattle.search_kinds.proofs.inner.tries.least_window.Goals as goal
 
 pub returns : goal.returns
 returns c =
-    tried_telling _ c.requires.product.sound c.apart_words-conflicts.ensures c.least_for.result c.least_for.ensures
+    tried_telling _ c.args.depths.now.sound c.apart_words.ensures c.least_for.result c.least_for.ensures

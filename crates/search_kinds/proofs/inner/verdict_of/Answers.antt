@@ -1,8 +1,0 @@
--- `verdict_of` meets its contract.
-use Rattle.search_kinds.proofs.inner.verdict_of.Goals as goal
-
-pub returns-in-None : goal.returns-in-None
-returns-in-None c = rw c.in-None.is
-
-pub returns-in-Some : goal.returns-in-Some
-returns-in-Some c = rw c.in-Some.is
