@@ -3,14 +3,15 @@ use mathlib.Core.Path.{◌≡◌, refl, sym, ap, ◌∙◌, subst}
 use mathlib.Core.Bool.{Bool, true, false, not, ◌&&◌, ◌||◌}
 use mathlib.Core.List.{List, [], ◌∷◌}
 use mathlib.Core.Logic.{⊎_elim}
-use Prim.Native.Nat.{ℕ, zero, suc, ◌+◌, ◌<◌}
+use Prim.Native.Nat.{ℕ, zero, suc, ◌+◌, ◌<◌, ◌≤◌}
 use native.Mathlib.Nat.{eq-or-lt_of_le, le_of_suc-le-suc}
 use native.Mathlib.Numerals.{add-one}
 use native.Mathlib.Omega.{arith}
-use lib.ListN.{get_or}
+use lib.ListN.{length, get_or, drop}
+use lib.Seq.{drop-cons}
 use lib.Dec.{ltb}
 use borrow.Author.Tests.{lt-ltb, le-ltb, le-leb, lt-leb, eq-eqb, ne_eqb, ltb-true, not-false}
-use Rattle.std.specs.Prelude.{◌↔◌, IsTrue, EachIndex}
+use Rattle.std.specs.Prelude.{◌↔◌, IsTrue}
 use Rattle.mealy.specs.Machine.{Letters}
 use Rattle.coder.specs.Refusal.{refuse, first, answer, all_below, some_below, letters_below, upon}
 
@@ -162,25 +163,21 @@ letters_below_lem n (x ∷ xs) e =
     let a = both_true (ltb x n) (letters_below n xs) e in
     (ltb-true x n a.0, letters_below_lem n xs a.1)
 
-letters_at : (n : ℕ) (xs : List ℕ) → letters_below n xs ≡ true → EachIndex xs (λ k. get_or xs k 0 < n)
-letters_at n [] e k l = absurd (omega arith)
-letters_at n (x ∷ xs) e zero l = ltb-true x n (both_true (ltb x n) (letters_below n xs) e).0
-letters_at n (x ∷ xs) e (suc k) l = letters_at n xs (both_true (ltb x n) (letters_below n xs) e).1 k (le_of_suc-le-suc l)
+-- the test of the letters from place k on
+letters_from_lem :
+    (n : ℕ) (xs : List ℕ) (k : ℕ) → k < length xs →
+    letters_below n (drop k xs) ≡ (ltb (get_or xs k 0) n && letters_below n (drop (suc k) xs))
+letters_from_lem n xs k l = rw (drop-cons xs k 0 l)
 
-letters_of : (n : ℕ) (xs : List ℕ) → EachIndex xs (λ k. get_or xs k 0 < n) → letters_below n xs ≡ true
-letters_of n [] h = refl
-letters_of n (x ∷ xs) h = rw (lt-ltb x n (h 0 (omega arith))) (letters_of n xs (λ k l. h (suc k) (omega arith)))
+pub letters_more :
+    {b : Bool} (n : ℕ) (xs : List ℕ) (k : ℕ) → k < length xs → get_or xs k 0 < n →
+    b ≡ letters_below n (drop k xs) → b ≡ letters_below n (drop (k + 1) xs)
+letters_more n xs k l p e = e ∙ letters_from_lem n xs k l ∙ rw (lt-ltb (get_or xs k 0) n p, add-one)
 
--- a test that passes exactly where each letter does is the test of them all
-pub letters_each : (n : ℕ) (xs : List ℕ) {b : Bool} → (IsTrue b ↔ EachIndex xs (λ k. get_or xs k 0 < n)) → b ≡ letters_below n xs
-letters_each n xs {b} h = go b (letters_below n xs) h.0 h.1 (letters_at n xs) (letters_of n xs)
-  where
-    go :
-        (t u : Bool) → (t ≡ true → EachIndex xs (λ k. get_or xs k 0 < n)) → (EachIndex xs (λ k. get_or xs k 0 < n) → t ≡ true) →
-        (u ≡ true → EachIndex xs (λ k. get_or xs k 0 < n)) → (EachIndex xs (λ k. get_or xs k 0 < n) → u ≡ true) → t ≡ u
-    go true u f g f' g' = sym (g' (f refl))
-    go false true f g f' g' = g (f' refl)
-    go false false f g f' g' = refl
+pub letters_not :
+    {b : Bool} (n : ℕ) (xs : List ℕ) (k : ℕ) → k < length xs → n ≤ get_or xs k 0 →
+    b ≡ letters_below n (drop k xs) → b ≡ false
+letters_not n xs k l p e = e ∙ letters_from_lem n xs k l ∙ rw (le-ltb (get_or xs k 0) n p)
 
 -- a test that passes exactly where each number below n does is the test of them all
 pub all_each : (n : ℕ) (p : ℕ → Bool) {b : Bool} → (IsTrue b ↔ ((k : ℕ) → k < n → p k ≡ true)) → b ≡ all_below n p

@@ -1,14 +1,12 @@
 -- Laws of numbers with a space in front of each.
 use mathlib.Core.Path.{◌≡◌, refl, sym, ap, ◌∙◌}
 use mathlib.Core.List.{List, [], ◌∷◌, ◌++◌, append_assoc, append-nil}
-use Prim.Native.Nat.{ℕ, zero, suc, ◌+◌, ◌*◌, ◌-◌, ◌/◌, ◌^◌, ◌<◌, ◌≤◌}
+use Prim.Native.Nat.{ℕ, suc, ◌+◌, ◌*◌, ◌-◌, ◌^◌, ◌<◌, ◌≤◌}
 use native.Mathlib.Nat.{mul-suc}
 use native.Mathlib.Numerals.{add-one}
 use native.Mathlib.Omega.{arith}
 use lib.ListN.{length, get_or, take, drop, length-append}
-use lib.Seq.{take-suc, take-add, drop-drop, length-take-le}
-use Rattle.std.proofs.Common.{get_or-take, get_or-drop}
-use Rattle.std.specs.Simd.{first_chunks}
+use lib.Seq.{take-suc, take-add}
 use Rattle.text.specs.Ascii.{space}
 use Rattle.text.specs.Decimal.{decimal}
 use Rattle.placing.specs.Placed.{Placed}
@@ -84,31 +82,6 @@ pub spaced_all :
     {before out : List ℕ} {at place : ℕ} (xs : List ℕ) (i n : ℕ) → i ≤ n → n ≤ i → Placed before at (spaced (take (2 * i) xs)) out place →
     Placed before at (spaced (take (2 * n) xs)) out place
 spaced_all xs i n l m a = let e : i ≡ n = omega arith in rw e at a
-
--- the pairs of a buffer's bytes: how many there are, and their letters
-pub pairs_count : {k : ℕ} (xs : List ℕ) (n : ℕ) → 2 * n ≤ length xs → k ≡ length (take (2 * n) xs) / 2 → k ≡ n
-pairs_count xs n l e = omega (arith, length-take-le (2 * n) xs l, e)
-
-pairs_at : (xs : List ℕ) (k i : ℕ) (d : List ℕ) → i < k → get_or (first_chunks 2 k xs) i d ≡ take 2 (drop (2 * i) xs)
-pairs_at xs zero i d l = absurd (omega arith)
-pairs_at xs (suc k) zero d l = refl
-pairs_at xs (suc k) (suc i) d l =
-    let e : 2 + 2 * i ≡ 2 * suc i = omega arith in
-    pairs_at (drop 2 xs) k i d (omega arith) ∙ ap (λ ys. take 2 ys) (drop-drop (2 * i) 2 xs ∙ ap (λ m. drop m xs) e)
-
-pair_letter :
-    (xs : List ℕ) (n k i j : ℕ) → i < k → i < n → j < 2 →
-    get_or (get_or (first_chunks 2 k (take (2 * n) xs)) i []) j 0 ≡ get_or xs (2 * i + j) 0
-pair_letter xs n k i j l m h =
-    rw (pairs_at (take (2 * n) xs) k i [] l, get_or-take 2 (drop (2 * i) (take (2 * n) xs)) j 0 h, get_or-drop (2 * i) (take (2 * n) xs) j 0)
-    (get_or-take (2 * n) xs (2 * i + j) 0 (omega arith))
-
-pub pair_letters :
-    {ps : List (List ℕ)} {k : ℕ} (xs : List ℕ) (n i : ℕ) → ps ≡ first_chunks 2 k (take (2 * n) xs) → i < k → i < n →
-    (get_or (get_or ps i []) 0 0 ≡ get_or xs (2 * i) 0) × (get_or (get_or ps i []) 1 0 ≡ get_or xs (2 * i + 1) 0)
-pair_letters {ps} {k} xs n i e l m =
-    let z : 2 * i + 0 ≡ 2 * i = omega arith in
-    rw e (pair_letter xs n k i 0 l m (omega arith) ∙ ap (λ p. get_or xs p 0) z, pair_letter xs n k i 1 l m (omega arith))
 
 -- there is room for them where there is for more
 pub room_more :

@@ -37,10 +37,9 @@ fn letters_line(out: &mut [u8], at: usize, letters: &[u8], n: usize) -> usize
     ensures { Placed out.old at (letters_line (take (2 * n) letters.now)) out.new result }
 {
     let mut next = put(out, at, b"letters");
-    let (pairs, _) = letters[..2 * n].as_chunks::<2>();
-    for pair in pairs {
-        let x = usize::from(pair[0]);
-        let y = usize::from(pair[1]);
+    for i in 0..n {
+        let x = usize::from(letters[2 * i]);
+        let y = usize::from(letters[2 * i + 1]);
         next = two(out, next, x, y);
     }
     put(out, next, b"\n")

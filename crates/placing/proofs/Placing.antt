@@ -1,10 +1,11 @@
 -- Laws of bytes that are written into a buffer.
 use mathlib.Core.Path.{◌≡◌, refl, sym, ap, ◌∙◌}
 use mathlib.Core.List.{List, [], ◌∷◌, ◌++◌, append_assoc}
-use Prim.Native.Nat.{ℕ, suc, ◌+◌, ◌≤◌}
+use Prim.Native.Nat.{ℕ, suc, ◌+◌, ◌<◌, ◌≤◌}
+use native.Mathlib.Numerals.{add-one}
 use native.Mathlib.Omega.{arith}
 use lib.ListN.{length, get_or, take, drop, set, replicate, length-append, length-replicate}
-use lib.Seq.{sets, sets-eq, drop-drop, take_at, length-sets, get_or-set_other}
+use lib.Seq.{sets, sets-eq, drop-drop, take_at, take-suc, length-sets, get_or-set_other}
 use Rattle.placing.specs.Placed.{with_front, Placed}
 
 -- ---- one after the other
@@ -29,6 +30,17 @@ written_both {before} {middle} {after} {xs} ys zs a b = rw (append_assoc xs ys z
 
 pub written_none : (before : List ℕ) (at : ℕ) → Placed before at [] before at
 written_none before at = record { buffer = refl; end = omega arith }
+
+pub written_one :
+    {before bytes : List ℕ} {at : ℕ} (out : List ℕ) (place x next : ℕ) → Placed before at bytes out place → next ≡ place + 1 →
+    Placed before at (bytes ++ (x ∷ [])) (set out place x) next
+written_one out place x next a e = written_then a (record { buffer = refl; end = e })
+
+-- one byte more of a slice
+pub slice_more :
+    {before out : List ℕ} {at place : ℕ} (bytes : List ℕ) (i next : ℕ) → i < length bytes → Placed before at (take i bytes) out place →
+    next ≡ place + 1 → Placed before at (take (i + 1) bytes) (set out place (get_or bytes i 0)) next
+slice_more {before} {out} {at} {place} bytes i next l a e = rw (add-one, take-suc bytes i 0 l) (written_one out place (get_or bytes i 0) next a e)
 
 -- a part of the buffer is written anew
 pub part_written :

@@ -3,15 +3,15 @@
 ghost use Rattle.std.specs.Prelude.{◌+◌, ◌-◌, ◌≤◌, length, replicate};
 ghost use Rattle.placing.specs.Placed.{Placed};
 
-// The bytes of a slice.
-#[tactic(auto, using(crate::proofs::Placing::part_written))]
+// The bytes of a slice, by places and not by `copy_from_slice`: that would need memmove, which nothing else in the library for C needs.
 pub fn put(out: &mut [u8], at: usize, bytes: &[u8]) -> usize
     requires { at + length bytes.now ≤ length out.old }
     ensures { Placed out.old at bytes.now out.new result }
 {
-    let end = at + bytes.len();
-    out[at..end].copy_from_slice(bytes);
-    end
+    for i in 0..bytes.len() {
+        out[at + i] = bytes[i];
+    }
+    at + bytes.len()
 }
 
 // The same byte up to the place `end`; nothing where that is not above `at`.

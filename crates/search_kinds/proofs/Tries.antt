@@ -77,11 +77,11 @@ module _ (c : Coder) (sound : Sound c) {backs forwards : List (List ℕ)} where
       }
 
   module _ {D E : ℕ → ℕ → Type 0} (f : (i j : ℕ) → D i j ↔ E i j) where
-    told_none : LeastTold c backs forwards D None → SomeTold c backs forwards E false
+    pub told_none : LeastTold c backs forwards D None → SomeTold c backs forwards E false
     told_none g starts d =
         judges_not (λ w. g starts d w.0 w.1 (works_same (same_sym (same_letters (λ i j l m. f i j) starts d)) w.0 w.1 w.2))
 
-    told_some : (w : Window) → LeastTold c backs forwards D (Some w) → SomeTold c backs forwards E true
+    pub told_some : (w : Window) → LeastTold c backs forwards D (Some w) → SomeTold c backs forwards E true
     told_some w g starts d = judges_yes (_, _, works_same (same_letters (λ i j l m. f i j) starts d) _ _ (g starts d).least.works)
 
     pub told : (r : Option Window) → LeastTold c backs forwards D r → SomeTold c backs forwards E (is_some r)

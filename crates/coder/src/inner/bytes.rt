@@ -6,5 +6,10 @@ ghost use Rattle.coder.specs.Refusal.{letters_below};
 pub fn letters_below(n: usize, letters: &[u8]) -> bool
     ensures { result ≡ letters_below n letters.now }
 {
-    letters.iter().all(|x| usize::from(*x) < n)
+    for x in letters {
+        if n <= usize::from(*x) {
+            return false;
+        }
+    }
+    true
 }

@@ -22,7 +22,9 @@ use starts::inner::start_states;
 use table_size::inner::size;
 use values::Window;
 
-// What decodes the windows of an accepted file with a settle count.
+// What decodes the windows of an accepted file with a settle count. Inlined, so that the tables are made where they stay: a call would hold
+// them on the stack twice.
+#[inline(always)]
 fn sets_of(file: &[u8], settle: usize) -> Sets
     requires { file_refusal file.now ≡ 0 }
     ensures tables { TablesOf (coder_of file.now) result.next result.successors result.predecessors result.letters result.starts }

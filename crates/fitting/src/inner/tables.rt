@@ -50,7 +50,8 @@ pub struct Sets {
 }
 
 impl Sets {
-    // The tables of a coder, and these start states.
+    // The tables of a coder, and these start states. Not inlined: its frame is gone before the caller goes on.
+    #[inline(never)]
     pub fn of_coder(c: &Coder, starts: u16) -> Self
         requires { Sound c.now }
         ensures { SetsOf c.now result.successors result.predecessors result.letters × (result.next ≡ c.now.next) × (result.starts ≡ starts) }

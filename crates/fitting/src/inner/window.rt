@@ -49,7 +49,7 @@ impl Sets {
     {
         let fit = self.fitting(window, b);
         if fit == 0 {
-            return Answer::None(how_far(&self.successors, window, self.starts));
+            return answer_of(fit, how_far(&self.successors, window, self.starts));
         }
         answer_of(fit, UNCOUNTED)
     }
